@@ -1,0 +1,4 @@
+pub mod Prices
+pub mod Tiers
+pub mod Charges
+pub mod Ladders

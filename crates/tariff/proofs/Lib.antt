@@ -1,0 +1,4 @@
+pub mod Orders
+pub mod Readings
+pub mod Limits
+pub mod Bills

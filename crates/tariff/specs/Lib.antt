@@ -1,0 +1,10 @@
+pub mod Limits
+pub mod Faults
+pub mod Orders
+pub mod Schedules
+pub mod Readings
+pub mod Usages
+pub mod Sheets
+pub mod Lines
+pub mod Bills
+pub mod Ratings
