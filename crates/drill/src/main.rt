@@ -1,4 +1,6 @@
 // Prices a stored list of readings, and prints every step on the way to the base.
+#![tactic(auto)]
+
 mod readings;
 mod show;
 

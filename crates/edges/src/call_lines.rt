@@ -1,5 +1,5 @@
 // Call lines read and written: each refusal with its field, the edges of lengths and numbers, and bytes that are no text.
-use crate::readings::EMPTY;
+use crate::tests::EMPTY;
 use crate::told::{Told, bytes_or_refused, refused};
 use calls::call::{Call, MAX_LINE};
 use fields::rider::HouseRider;
@@ -308,7 +308,7 @@ fn readings_have_their_fields(rt: HostRuntime) -> Result<(), Fail> {
     ) else {
         return Err(Fail::new("a reading is not read"));
     };
-    assert!(rt; account == b"Z9");
+    assert!(rt; account == b"Z9".as_slice());
     assert!(rt; reading.schedule.code() == "LP-13");
     assert_eq!(rt; reading.rooms, 1);
     assert_eq!(rt; reading.kwh, 20);

@@ -7,7 +7,7 @@ use tariff::reading::Reading;
 use tariff::refusal::Refusal;
 use tariff::schedule::Schedule;
 
-const EMPTY: Reading = Reading {
+pub(crate) const EMPTY: Reading = Reading {
     schedule: Schedule::Grs,
     rooms: 0,
     kwh: 0,

@@ -2,18 +2,14 @@
 use Rattle.std.proofs.Common.{◌≡◌, ℕ, ◌+◌, ◌<◌, ◌≤◌, Bool, true, false, cond, List, [], ◌∷◌, length, get_or, drop, Some, None, Option, sym, refl, ap, ◌∙◌, arith}
 use Rattle.std.specs.Str.{bytes_eq}
 use Rattle.std.proofs.lemmas.List.{at_drop_more, at_drop_all}
-use Rattle.std.proofs.lemmas.Slice.Eq.{bytes_eq-Decides, slice_eq-Decides}
-use Rattle.std.proofs.lemmas.Bool.Decides.{same_from_decides, Decides-eqb}
-use Rattle.fields.specs.Codes.{coded, TellsSame}
-
-tested : (xs ys : List ℕ) (r : Bool) → TellsSame xs ys r → bytes_eq xs ys ≡ r
-tested xs ys r h = same_from_decides (bytes_eq xs ys) r (bytes_eq-Decides xs ys) (slice_eq-Decides Decides-eqb xs ys r h)
+use Rattle.std.proofs.lemmas.Slice.Eq.{bytes_eq-Decides}
+use Rattle.fields.specs.Codes.{coded}
 
 -- at an item that is or is not spelt so, what the search finds from there on
-pub coded_step : {X : Type 0} (spelling : X → List ℕ) (xs : List X) (i : ℕ) (x : X) (bs ys : List ℕ) (r : Bool) → i < length xs → x ≡ get_or xs i x → ys ≡ spelling x → TellsSame bs ys r
+pub coded_step : {X : Type 0} (spelling : X → List ℕ) (xs : List X) (i : ℕ) (x : X) (bs ys : List ℕ) (r : Bool) → i < length xs → x ≡ get_or xs i x → ys ≡ spelling x → r ≡ bytes_eq bs ys
     → coded spelling (drop i xs) bs ≡ cond r (Some x) (coded spelling (drop (i + 1) xs) bs)
 coded_step spelling xs i x bs ys r l q e m =
-    let t : bytes_eq bs (spelling x) ≡ r = rw e at (tested bs ys r m) in
+    let t : bytes_eq bs (spelling x) ≡ r = rw e at (sym m) in
     at_drop_more (λ (zs : List _). coded spelling zs bs) xs i x l ∙ rw (← q, t) refl
 
 pub coded_end : {X : Type 0} (spelling : X → List ℕ) (xs : List X) (i : ℕ) (bs : List ℕ) → length xs ≤ i → coded spelling (drop i xs) bs ≡ None

@@ -1,6 +1,6 @@
 // Codes: the names that a line has for things.
-ghost use Rattle.std.specs.Prelude.{◌≡◌, ℕ, List};
-ghost use Rattle.fields.specs.Codes.{coded, TellsSame};
+ghost use Rattle.std.specs.Prelude.{◌≡◌, ℕ, List, bytes_eq};
+ghost use Rattle.fields.specs.Codes.{coded};
 ghost use Rattle.tariff.specs.Schedules.{code_of};
 
 use tariff::schedule::Schedule;
@@ -22,14 +22,14 @@ impl Coded for Schedule {
 }
 
 fn same_bytes(a: &[u8], b: &[u8]) -> bool
-    ensures { TellsSame a.now b.now result }
+    ensures { result ≡ bytes_eq a.now b.now }
 {
     a == b
 }
 
 // The first of a list that has this code.
 pub fn find<T: Coded>(all: &[T], code: &[u8]) -> Option<T>
-    ensures { result ≡ coded spelling all.now code.now }
+    ensures { result ≡ coded T.spelling all.now code.now }
 {
     for item in all {
         if same_bytes(code, item.code_bytes()) {

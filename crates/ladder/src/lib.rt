@@ -1,4 +1,6 @@
 // Price ladders: what a month's kWh cost when the price changes from block to block.
+#![tactic(auto)]
+
 mod charge;
 pub mod ladder;
 mod make;

@@ -1,5 +1,7 @@
 // Reads a stored list of call lines: prices the readings and prints every step on the way to the base, shows the other calls,
 // and writes each accepted line again.
+#![tactic(auto)]
+
 mod lines;
 mod rated;
 mod show;

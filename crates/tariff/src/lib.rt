@@ -1,4 +1,6 @@
 // The rate book: eleven schedules, and what a month's reading comes to under each.
+#![tactic(auto)]
+
 pub mod bill;
 mod book;
 mod check;

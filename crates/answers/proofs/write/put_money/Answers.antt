@@ -7,4 +7,4 @@ use Rattle.answers.proofs.write.put_money.Goals as goal
 pub returns : goal.returns
 returns c =
     let z : to_z w64 (of_z w64 c.args.money.0) ≡ c.args.money.0 = search (rules, to_z-of_z) in
-    rw (← c.code-bytes.ensures, ← z) (extended_both _ _ _ _ _ _ c.field.ensures (extended_last _ _ _ _ c.integer.ensures))
+    rw (← c.code_bytes.ensures, ← z) (extended_both _ _ _ _ _ _ c.field.ensures (extended_last _ _ _ _ c.integer.ensures))

@@ -19,15 +19,15 @@ returns-in-Bill c =
     let riders = map signed_decimal (amounts c.in-Bill.riders) in
     let p = extended_both _ _ _ _ _ _ (rw c.from.ensures at c.natural.ensures)
     (extended_both _ _ _ _ _ _ c.field.ensures
-    (extended_both _ _ _ _ _ _ (rw c.base_lines.ensures at c.put-amounts.ensures.value)
-    (extended_both _ _ _ _ _ _ c.put-amounts-in-Bill.ensures.value (rw (to_z-of_z w64 c.in-Bill.total.0 f) at c.integer.ensures)))) in
+    (extended_both _ _ _ _ _ _ (rw c.base_lines.ensures at c.put_amounts.ensures.value)
+    (extended_both _ _ _ _ _ _ c.put_amounts-in-Bill.ensures.value (rw (to_z-of_z w64 c.in-Bill.total.0 f) at c.integer.ensures)))) in
     let e = bill_fields (decimal c.in-Bill.number) c.in-Bill.account.now base riders (signed_decimal c.in-Bill.total.0) in
     rw c.in-Bill.is
     (record {
       value = extended_same _ _ _ _ _ (sym e) p;
       bound = λ k.
           let s = bill_short (decimal c.in-Bill.number) c.in-Bill.account.now base riders (signed_decimal c.in-Bill.total.0)
-          (decimal32_short _ n) (account_short _ (passed (misspellings (bill c.in-Bill.number c.in-Bill.account.now (amounts (base_lines c.in-Bill.base)) (amounts c.in-Bill.riders) c.in-Bill.total.0)) (sym k)).0) (rw c.base_lines.ensures at c.put-amounts.ensures.bound) (omega (arith, c.put-amounts-in-Bill.ensures.bound)) (signed_short _ f) in
+          (decimal32_short _ n) (account_short _ (passed (misspellings (bill c.in-Bill.number c.in-Bill.account.now (amounts (base_lines c.in-Bill.base)) (amounts c.in-Bill.riders) c.in-Bill.total.0)) (sym k)).0) (rw c.base_lines.ensures at c.put_amounts.ensures.bound) (omega (arith, c.put_amounts-in-Bill.ensures.bound)) (signed_short _ f) in
           omega (arith, s);
     })
 
@@ -49,13 +49,13 @@ pub returns-in-Filed : goal.returns-in-Filed
 unfolding field_bytes
 returns-in-Filed c =
     let f : SFits w64 c.in-Filed.factor.0 = search rules in
-    rw c.in-Filed.is (record { value = c.put-money.ensures; bound = λ _. omega (arith, money_short c.in-Filed.rider _ f) })
+    rw c.in-Filed.is (record { value = c.put_money.ensures; bound = λ _. omega (arith, money_short c.in-Filed.rider _ f) })
 
 pub returns-in-Entered : goal.returns-in-Entered
 unfolding field_bytes
 returns-in-Entered c =
     let f : SFits w64 c.in-Entered.balance.0 = search rules in
-    rw c.in-Entered.is (record { value = c.put-money-in-Entered.ensures; bound = λ _. omega (arith, money_short c.in-Entered.rider _ f) })
+    rw c.in-Entered.is (record { value = c.put_money-in-Entered.ensures; bound = λ _. omega (arith, money_short c.in-Entered.rider _ f) })
 
 pub returns-in-Report : goal.returns-in-Report
 unfolding field_bytes
@@ -75,7 +75,7 @@ returns-in-Report c =
     (extended_last _ _ _ _ (rw (to_z-of_z w64 c.in-Report.entered.0 e) at c.integer-in-Report-3.ensures))))))) in
     rw c.in-Report.is
     (record {
-      value = rw (← c.code-bytes.ensures) p;
+      value = rw (← c.code_bytes.ensures) p;
       bound = λ _. omega (arith, report_short c.in-Report.rider _ _ _ _ _ _ b f e n s k);
     })
 

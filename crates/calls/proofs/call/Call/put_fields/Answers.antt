@@ -9,9 +9,9 @@ use Rattle.calls.proofs.call.Call.put_fields.Goals as goal
 pub returns-in-Rate : goal.returns-in-Rate
 unfolding field_bytes
 returns-in-Rate c =
-    let n = rw c.numbers.ensures at c.put-numbers.ensures in
+    let n = rw c.numbers.ensures at c.put_numbers.ensures in
     let p = extended_both _ _ _ _ _ _ c.field.ensures (extended_both _ _ _ _ _ _ c.field-in-Rate.ensures n) in
-    rw (c.in-Rate.is, ← c.code-bytes.ensures) p
+    rw (c.in-Rate.is, ← c.code_bytes.ensures) p
 
 pub returns-in-Post : goal.returns-in-Post
 unfolding field_bytes
@@ -24,7 +24,7 @@ returns-in-File c =
     let p = extended_both _ _ _ _ _ _ c.field-in-File.ensures
     (extended_both _ _ _ _ _ _ c.integer.ensures
     (extended_last _ _ _ _ c.natural.ensures)) in
-    rw (c.in-File.is, ← c.code-bytes-in-File.ensures, ← z) p
+    rw (c.in-File.is, ← c.code_bytes-in-File.ensures, ← z) p
 
 pub returns-in-Enter : goal.returns-in-Enter
 unfolding field_bytes
@@ -32,10 +32,10 @@ returns-in-Enter c =
     let z : to_z w64 (of_z w64 c.in-Enter.amount.0) ≡ c.in-Enter.amount.0 = search (rules, to_z-of_z) in
     let p = extended_both _ _ _ _ _ _ c.field-in-Enter.ensures
     (extended_last _ _ _ _ c.integer-in-Enter.ensures) in
-    rw (c.in-Enter.is, ← c.code-bytes-in-Enter.ensures, ← z) p
+    rw (c.in-Enter.is, ← c.code_bytes-in-Enter.ensures, ← z) p
 
 pub returns-in-Report : goal.returns-in-Report
 unfolding field_bytes
 returns-in-Report c =
     let p = extended_last _ _ _ _ c.field-in-Report.ensures in
-    rw (c.in-Report.is, ← c.code-bytes-in-Report.ensures) p
+    rw (c.in-Report.is, ← c.code_bytes-in-Report.ensures) p

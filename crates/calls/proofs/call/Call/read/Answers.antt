@@ -12,11 +12,11 @@ use Rattle.calls.proofs.call.Call.read.Goals as goal
 pub returns : goal.returns
 returns c =
     let line : List ℕ = c.args.line.now in
-    let s : length line ≤ max_line = ltb-false _ _ (sym c.if-too-long.ensures) in
+    let s : length line ≤ max_line = ltb-false _ _ (sym c.if-too_long.ensures) in
     let e : left c.new-reader.result ≡ split line = c.new-reader.ensures in
     let l : letter_of (next (split line)) ≡ Some c.in-Some.letter
     = sym (c.in-Some.ensures ∙ ap letter_of (c.field.ensures.value ∙ ap next e)) in
     let a : left c.field.new.self ≡ later (split line) = c.field.ensures.after ∙ ap later e in
-    let v : meant c.read-fields.result ≡ read_line line
-    = c.read-fields.ensures ∙ (ap (read_as c.in-Some.letter) a ∙ sym (read_shaped line c.in-Some.letter s l c.if-not-is-complete.ensures)) in
-    record { value = v; places = placed; back = read_rewrites c.read-fields.result line v }
+    let v : meant c.read_fields.result ≡ read_line line
+    = c.read_fields.ensures ∙ (ap (read_as c.in-Some.letter) a ∙ sym (read_shaped line c.in-Some.letter s l c.if-not-is_complete.ensures)) in
+    record { value = v; places = placed; back = read_rewrites c.read_fields.result line v }

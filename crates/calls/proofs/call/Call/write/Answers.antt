@@ -10,26 +10,26 @@ use Rattle.calls.proofs.Orders.{write_text, write_long, write_misspelt, write_co
 use Rattle.calls.proofs.RoundTrips.{buffer_reads_back}
 use Rattle.calls.proofs.call.Call.write.Goals as goal
 
-pub returns-in-default : goal.returns-in-default
-returns-in-default c =
+pub returns-in_default : goal.returns-in_default
+returns-in_default c =
     let r = meaning c.args.self in
-    let t = write_text r _ _ _ _ _ c.letter.ensures c.code-bytes.ensures c.new-buffer.ensures c.append.ensures c.put-fields.ensures in
-    record { value = write_long r _ (at_most_none max_line _ (c.in-default.ensures ∙ t)); after = refl; back = tt }
+    let t = write_text r _ _ _ _ _ c.letter.ensures c.code_bytes.ensures c.new-buffer.ensures c.append.ensures c.put_fields.ensures in
+    record { value = write_long r _ (at_most_none max_line _ (c.in_default.ensures ∙ t)); after = refl; back = tt }
 
-pub returns-in-err-check-spelling : goal.returns-in-err-check-spelling
-returns-in-err-check-spelling c =
+pub returns-in_err-check_spelling : goal.returns-in_err-check_spelling
+returns-in_err-check_spelling c =
     let r = meaning c.args.self in
-    let t = write_text r _ _ _ _ _ c.letter.ensures c.code-bytes.ensures c.new-buffer.ensures c.append.ensures c.put-fields.ensures in
+    let t = write_text r _ _ _ _ _ c.letter.ensures c.code_bytes.ensures c.new-buffer.ensures c.append.ensures c.put_fields.ensures in
     let s = at_most_some max_line _ _ (c.in-Some.ensures ∙ t) in
-    let p = err_from_is_err_and c.from-residual.result c.from-residual.ensures.1 in
-    rw (p.1, p.2) (record { value = write_misspelt r _ _ s.1 c.in-err-check-spelling.ensures; after = refl; back = tt })
+    let p = err_from_is_err_and c.from_residual.result c.from_residual.ensures.1 in
+    rw (p.1, p.2) (record { value = write_misspelt r _ _ s.1 c.in_err-check_spelling.ensures; after = refl; back = tt })
 
 pub returns : goal.returns
 returns c =
     let r = meaning c.args.self in
-    let t = write_text r _ _ _ _ _ c.letter.ensures c.code-bytes.ensures c.new-buffer.ensures c.append.ensures c.put-fields.ensures in
+    let t = write_text r _ _ _ _ _ c.letter.ensures c.code_bytes.ensures c.new-buffer.ensures c.append.ensures c.put_fields.ensures in
     let s = at_most_some max_line _ _ (c.in-Some.ensures ∙ t) in
-    let k = passed (record_misspellings r) c.in-ok-check-spelling.ensures in
-    let v = rw s.0 at c.copy-line.ensures.value in
-    let a = rw s.0 at c.copy-line.ensures.after in
+    let k = passed (record_misspellings r) c.in_ok-check_spelling.ensures in
+    let v = rw s.0 at c.copy_line.ensures.value in
+    let a = rw s.0 at c.copy_line.ensures.after in
     record { value = v ∙ write_copied r _ s.1 k; after = a; back = buffer_reads_back r _ _ _ s.1 k v a }

@@ -9,7 +9,7 @@ use Rattle.fields.proofs.line.LineBuffer.integer.Goals.{then-number-lt0, else-nu
 pub returns : goal.returns
 returns g c =
     let z : to_z w64 (of_z w64 c.args.number) ≡ c.args.number = to_z-of_z w64 c.args.number c.ranges.number in
-    let n : c.unsigned-abs.result ≡ nat_abs c.args.number = c.unsigned-abs.ensures.value ∙ ap nat_abs z in
+    let n : c.unsigned_abs.result ≡ nat_abs c.args.number = c.unsigned_abs.ensures.value ∙ ap nat_abs z in
     elim c.if-number-lt0.branch [
       | then-number-lt0 w ↦
           let l : lt_z (to_z w64 (of_z w64 c.args.number)) (pos 0) ≡ true = w.if-number-lt0.true in

@@ -4,6 +4,6 @@ use Rattle.tariff.proofs.reading.Reading.rate.Goals as goal
 
 pub returns : goal.returns
 returns c = record {
-  verdict = c.in-ok-usage.ensures.verdict;
-  values = rates c.args.self.now _ c.rated.result c.in-ok-usage.ensures.values c.rated.ensures;
+  verdict = c.in_ok-usage.ensures.verdict;
+  values = rates c.args.self.now _ c.rated.result c.in_ok-usage.ensures.values c.rated.ensures;
 }

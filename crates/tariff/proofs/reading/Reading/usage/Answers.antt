@@ -5,39 +5,39 @@ use Rattle.tariff.proofs.Orders.{passed}
 use Rattle.tariff.proofs.Readings.{no_rate, over_limit, in_range, strays, contradicted, accepted, within}
 use Rattle.tariff.proofs.reading.Reading.usage.Goals as goal
 
-pub returns-in-default : goal.returns-in-default
-returns-in-default c = record { verdict = no_rate c.args.self.now c.in-default.ensures; values = tt }
+pub returns-in_default : goal.returns-in_default
+returns-in_default c = record { verdict = no_rate c.args.self.now c.in_default.ensures; values = tt }
 
-pub returns-in-err-check-limits : goal.returns-in-err-check-limits
-returns-in-err-check-limits c =
-    let p = err_from_is_err_and c.from-residual.result c.from-residual.ensures.1 in
+pub returns-in_err-check_limits : goal.returns-in_err-check_limits
+returns-in_err-check_limits c =
+    let p = err_from_is_err_and c.from_residual.result c.from_residual.ensures.1 in
     rw (p.1, p.2)
-    (record { verdict = over_limit c.args.self.now _ c.in-Some.ensures _ c.in-err-check-limits.ensures; values = tt })
+    (record { verdict = over_limit c.args.self.now _ c.in-Some.ensures _ c.in_err-check_limits.ensures; values = tt })
 
-pub returns-in-err-check-unused : goal.returns-in-err-check-unused
-returns-in-err-check-unused c =
+pub returns-in_err-check_unused : goal.returns-in_err-check_unused
+returns-in_err-check_unused c =
     let r = c.args.self.now in
-    let p = err_from_is_err_and c.from-residual-in-err-check-unused.result c.from-residual-in-err-check-unused.ensures.1 in
-    let k = in_range r _ c.in-Some.ensures c.in-ok-check-limits.ensures in
-    rw (p.1, p.2) (record { verdict = strays r k _ c.in-err-check-unused.ensures; values = tt })
+    let p = err_from_is_err_and c.from_residual-in_err-check_unused.result c.from_residual-in_err-check_unused.ensures.1 in
+    let k = in_range r _ c.in-Some.ensures c.in_ok-check_limits.ensures in
+    rw (p.1, p.2) (record { verdict = strays r k _ c.in_err-check_unused.ensures; values = tt })
 
-pub returns-in-err-check-agreement : goal.returns-in-err-check-agreement
-returns-in-err-check-agreement c =
+pub returns-in_err-check_agreement : goal.returns-in_err-check_agreement
+returns-in_err-check_agreement c =
     let r = c.args.self.now in
-    let p = err_from_is_err_and c.from-residual-in-err-check-agreement.result c.from-residual-in-err-check-agreement.ensures.1 in
-    let k = in_range r _ c.in-Some.ensures c.in-ok-check-limits.ensures in
-    let m = passed (unused r) c.in-ok-check-unused.ensures in
-    rw (p.1, p.2) (record { verdict = contradicted r k m _ c.in-err-check-agreement.ensures; values = tt })
+    let p = err_from_is_err_and c.from_residual-in_err-check_agreement.result c.from_residual-in_err-check_agreement.ensures.1 in
+    let k = in_range r _ c.in-Some.ensures c.in_ok-check_limits.ensures in
+    let m = passed (unused r) c.in_ok-check_unused.ensures in
+    rw (p.1, p.2) (record { verdict = contradicted r k m _ c.in_err-check_agreement.ensures; values = tt })
 
 pub narrowed-requires : goal.narrowed-requires
 narrowed-requires c =
     let r = c.args.self.now in
-    let k = in_range r _ c.in-Some.ensures c.in-ok-check-limits.ensures in
-    record { limits = within r k (passed (contradictions r) c.in-ok-check-agreement.ensures); rate = c.in-Some.ensures }
+    let k = in_range r _ c.in-Some.ensures c.in_ok-check_limits.ensures in
+    record { limits = within r k (passed (contradictions r) c.in_ok-check_agreement.ensures); rate = c.in-Some.ensures }
 
 pub returns : goal.returns
 returns c =
     let r = c.args.self.now in
-    let k = in_range r _ c.in-Some.ensures c.in-ok-check-limits.ensures in
-    let m = passed (unused r) c.in-ok-check-unused.ensures in
-    record { verdict = accepted r k m c.in-ok-check-agreement.ensures; values = c.narrowed.ensures }
+    let k = in_range r _ c.in-Some.ensures c.in_ok-check_limits.ensures in
+    let m = passed (unused r) c.in_ok-check_unused.ensures in
+    record { verdict = accepted r k m c.in_ok-check_agreement.ensures; values = c.narrowed.ensures }
