@@ -98,18 +98,13 @@ fn show_again(rt: &HostRuntime, line: &[u8], call: Call) -> anyhow::Result<()> {
 // The line that answers a refusal, and the reason.
 fn show_refusal(rt: &HostRuntime, refusal: Refusal, (what, why): Reason) -> anyhow::Result<()> {
     let mut buffer = [0; MAX_ANSWER];
-    let Ok(len) = refused(refusal).write(&mut buffer) else {
+    let Ok(len) = Answer::Refused(refusal).write(&mut buffer) else {
         return Err(anyhow!("an answer that can't be written"));
     };
     let line = buffer.get(0..len).unwrap_or(&[]);
     show_bytes(rt, "answer ", line, ": ")?;
     println!(rt; "{what}{why}")?;
     Ok(())
-}
-
-// Made apart from its use: where an answer that borrows nothing is made and used in one function, no proof is generated.
-fn refused<'a>(refusal: Refusal) -> Answer<'a> {
-    Answer::Refused(refusal)
 }
 
 fn show_bytes(rt: &HostRuntime, before: &str, bytes: &[u8], after: &str) -> anyhow::Result<()> {
