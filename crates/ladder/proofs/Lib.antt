@@ -1,5 +1,4 @@
-pub mod Shapes
+pub mod Orders
 pub mod Blocks
-pub mod Parts
 pub mod Sums
 pub mod Bounds

@@ -1,4 +1,5 @@
 pub mod Prices
 pub mod Tiers
+pub mod Steps
 pub mod Charges
 pub mod Ladders
