@@ -122,7 +122,7 @@ fn time_of_use_wants_a_load(rt: HostRuntime) -> Result<(), Fail> {
         Ok(_) => Err(Fail::new("a load of 999 kVA is rated")),
         Err(fault) => {
             assert_eq!(rt;
-                fault.refusal(),
+                Refusal::from(fault),
                 Refusal {
                     number: 5,
                     layer: 2,

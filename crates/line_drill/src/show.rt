@@ -61,7 +61,7 @@ fn show_rate(rt: &HostRuntime, account: &[u8], reading: &Reading) -> anyhow::Res
     show_reading(rt, reading)?;
     match reading.rate() {
         Ok(rated) => show_rated(rt, reading.schedule, &rated)?,
-        Err(fault) => show_refusal(rt, fault.refusal(), rating_reason(fault))?,
+        Err(fault) => show_refusal(rt, Refusal::from(fault), rating_reason(fault))?,
     }
     Ok(())
 }

@@ -1,5 +1,6 @@
 -- How an order of refusals decides.
-use Rattle.std.proofs.Common.{◌≡◌, ℕ, ◌+◌, ◌<◌, ◌≤◌, Bool, true, false, cond, ◌⊎◌, List, [], ◌∷◌, ◌++◌, map, length, get_or, drop, Ok, Err, sym, refl, ◌∙◌, inl, inr, arith}
+use Rattle.std.proofs.Common.{◌≡◌, ℕ, ◌+◌, ◌<◌, ◌≤◌, Bool, true, false, cond, ◌⊎◌, List, [], ◌∷◌, ◌++◌, map, length, get_or, drop, Ok, Err, Result, sym, refl, ◌∙◌, inl, inr, arith}
+use Rattle.std.specs.Result.{result_and}
 use Rattle.std.proofs.lemmas.List.{at_drop_more, at_drop_all}
 use Rattle.tariff.specs.Orders.{Order, first, decision}
 
@@ -29,7 +30,16 @@ passed rs e = elim (ways {X = Unit {0}} rs tt) [
   | inr k ↦ let h = e ∙ k.1 in let z : ◌≡◌ {A = ℕ} 0 1 = cc in let w : ⊥ = omega arith in absurd w
 ]
 
--- one order after another, the answer of each aside
+-- one order after another
+pub decision-append : {E : Type 0} (rs ss : Order E) → decision (rs ++ ss) ≡ result_and (decision rs) (decision ss)
+decision-append [] ss = refl
+decision-append (r ∷ rs) ss = by_head r.0 r.1 _ _ _ (decision-append rs ss)
+  where
+    by_head : {E : Type 0} (t : Bool) (e : E) (a b c : Result (Unit {0}) E) → a ≡ result_and b c → cond t (Err e) a ≡ result_and (cond t (Err e) b) c
+    by_head true e a b c h = refl
+    by_head false e a b c h = h
+
+-- the same, the answer of each aside
 pub refused_early : {E X Y : Type 0} (rs ss : Order E) (x : X) (y : Y) (d : E) → Err d ≡ first rs x → Err d ≡ first (rs ++ ss) y
 refused_early [] ss x y d e = let z : ◌≡◌ {A = ℕ} 0 1 = cc in let w : ⊥ = omega arith in absurd w
 refused_early (r ∷ rs) ss x y d e = early_by r.0 r.1 rs ss x y d e (refused_early rs ss x y d)

@@ -1,9 +1,11 @@
 -- The schedules: their codes, the fields of a reading that each uses, and the rates of bills.
-use Rattle.std.specs.Prelude.{ℕ, Bool, true, false, cond, ◌||◌, List, [], ◌∷◌, Some, None, codes, Option, ◌==◌}
+use Rattle.std.specs.Prelude.{ℕ, Bool, true, false, cond, ◌||◌, List, [], ◌∷◌, Some, None, codes, Option, Result, ◌==◌}
+use Rattle.std.specs.Option.{ok_or}
 use Rattle.tariff.specs.declared.schedule.Schedule.{Schedule}
 use Rattle.tariff.specs.declared.schedule.Schedule.TheVariants as by
 use Rattle.tariff.specs.declared.schedule.Rooms.{Rooms}
 use Rattle.tariff.specs.declared.schedule.Rooms.TheVariants.{One, Two, Three, Four, Five}
+use Rattle.tariff.specs.declared.schedule.NoSuchRooms.{NoSuchRooms}
 use Rattle.tariff.specs.declared.schedule.Rate.{Rate}
 use Rattle.tariff.specs.declared.schedule.Rate.TheVariants.{Grs, Lrs, Rh3, Rfr, Gss, Gsp, Gst, TouP, TouT, Gas, Lp13}
 use Rattle.tariff.specs.declared.fault.Field.{Field}
@@ -89,6 +91,10 @@ rooms_of n =
     (cond (n == 4) (Some Four)
     (cond (n == 5) (Some Five)
     None))))
+
+-- the same, or why not
+abbrev pub rooms_or_refused : ℕ → Result Rooms NoSuchRooms
+rooms_or_refused n = ok_or (rooms_of n) (record { 0 = n })
 
 -- the fixed rate of so many rooms
 abbrev pub fixed : Option Rooms → Option Rate

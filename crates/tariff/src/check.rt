@@ -1,8 +1,9 @@
 // Whether a reading may be rated: its numbers are in range, the unused ones 0, and none contradicts another.
 ghost use Rattle.std.specs.Prelude.{◌≡◌, map, IfOk, Some};
+ghost use Rattle.std.specs.List.{find};
 ghost use Rattle.tariff.specs.Orders.{decision, verdict};
 ghost use Rattle.tariff.specs.Schedules.{uses, rate_of, kw_within_kva, time_of_use};
-ghost use Rattle.tariff.specs.Readings.{number_in, beyond, stray, limits, unused, contradictions, rating_order};
+ghost use Rattle.tariff.specs.Readings.{number_in, beyond, stray, limits, unused, contradictions, fields, rating_order};
 ghost use Rattle.tariff.specs.Usages.{Holds, Within};
 
 use crate::fault::{FIELDS, Field, RatingFault};
@@ -46,9 +47,7 @@ impl Schedule {
             }
         }
     }
-}
 
-impl Schedule {
     // On these schedules the kW of a month are not above its kVA.
     fn kw_within_kva(self) -> bool
         ensures { result ≡ kw_within_kva self }
@@ -79,12 +78,6 @@ impl Reading {
         }
     }
 
-    fn exceeds(&self, limit: (Field, u64)) -> bool
-        ensures { result ≡ (beyond self.now limit).0 }
-    {
-        self.number(limit.0) > limit.1
-    }
-
     // The schedule does not use the field, and yet it is not 0.
     fn strays(&self, field: Field) -> bool
         ensures { result ≡ (stray self.now field).0 }
@@ -92,28 +85,41 @@ impl Reading {
         !self.schedule.uses(field) && self.number(field) != 0
     }
 
+    // The first number that is too great.
+    fn over_limit(&self) -> Option<(Field, u64)>
+        ensures { result ≡ find (λ l. (beyond self.now l).0) limits }
+    {
+        LIMITS
+            .iter()
+            .copied()
+            .find(|&(field, most)| self.number(field) > most)
+    }
+
+    // The first number that the schedule does not use, and that is not 0.
+    fn stray(&self) -> Option<Field>
+        ensures { result ≡ find (λ f. (stray self.now f).0) fields }
+    {
+        FIELDS.iter().copied().find(|field| self.strays(*field))
+    }
+
     // The first number that is too great is refused.
     fn check_limits(&self) -> Result<(), RatingFault>
         ensures { verdict result ≡ decision (map (beyond self.now) limits) }
     {
-        for limit in &LIMITS {
-            if self.exceeds(*limit) {
-                return Err(RatingFault::OutOfRange(limit.0));
-            }
+        match self.over_limit() {
+            Some((field, _)) => Err(RatingFault::OutOfRange(field)),
+            None => Ok(()),
         }
-        Ok(())
     }
 
     // The first number that the schedule does not use, and that is not 0, is refused.
     fn check_unused(&self) -> Result<(), RatingFault>
         ensures { verdict result ≡ decision (unused self.now) }
     {
-        for field in &FIELDS {
-            if self.strays(*field) {
-                return Err(RatingFault::Unused(*field));
-            }
+        match self.stray() {
+            Some(field) => Err(RatingFault::Unused(field)),
+            None => Ok(()),
         }
-        Ok(())
     }
 
     // Numbers that contradict each other are refused.
@@ -133,20 +139,22 @@ impl Reading {
     }
 
     // The reading's rate and numbers, or the first refusal of rating's order.
+    #[tactic(auto, using(crate::proofs::Readings::no_rate, crate::proofs::Readings::within))]
     pub(crate) fn usage(&self) -> Result<Usage, RatingFault>
         ensures verdict { verdict result ≡ decision (rating_order self.now) }
         ensures values { IfOk result (Holds self.now) }
     {
-        let Some(rate) = self.schedule.rate(self.rooms) else {
-            return Err(RatingFault::OutOfRange(Field::Rooms));
-        };
+        let rate = self
+            .schedule
+            .rate(self.rooms)
+            .ok_or(RatingFault::OutOfRange(Field::Rooms))?;
         self.check_limits()?;
         self.check_unused()?;
         self.check_agreement()?;
         Ok(self.narrowed(rate))
     }
 
-    // The numbers as an accepted reading has them, in fewer bits.
+    // The numbers as an accepted reading has them, in fewer bits: `as` is proved to lose nothing, and `try_from` would refuse nothing.
     fn narrowed(&self, rate: Rate) -> Usage
         requires limits { Within self.now }
         requires rate { Some rate ≡ rate_of self.now.schedule self.now.rooms }

@@ -2,21 +2,18 @@
 ghost use Rattle.std.specs.Prelude.{◌≡◌};
 ghost use Rattle.tariff.specs.Faults.{fault_refusal, field_number};
 
-use crate::refusal::Refusal;
+use crate::refusal::{Layer, Refusal, Rule};
 
-// The layer that rating's refusals name.
-const RATING: u8 = 2;
-
-// A number of a reading, in the order of the call line.
-#[derive(Clone, Copy)]
+// A number of a reading, by its place on the call line, counted from 1.
+#[derive(Clone, Copy, PartialEq, Eq, Hash, Debug)]
 pub enum Field {
-    Rooms,
-    Kwh,
-    OffPeakKwh,
-    Kw,
-    Kva,
-    OffPeakKva,
-    ContractedLoad,
+    Rooms = 4,
+    Kwh = 5,
+    OffPeakKwh = 6,
+    Kw = 7,
+    Kva = 8,
+    OffPeakKva = 9,
+    ContractedLoad = 10,
 }
 
 // All of them, in the order of the call line.
@@ -30,7 +27,7 @@ pub const FIELDS: [Field; 7] = [
     Field::ContractedLoad,
 ];
 
-#[derive(Clone, Copy)]
+#[derive(Clone, Copy, PartialEq, Eq, Hash, Debug)]
 pub enum RatingFault {
     // the number is beyond what any reading may have
     OutOfRange(Field),
@@ -49,33 +46,24 @@ impl Field {
     pub fn number(self) -> u8
         ensures { result ≡ field_number self }
     {
-        match self {
-            Field::Rooms => 4,
-            Field::Kwh => 5,
-            Field::OffPeakKwh => 6,
-            Field::Kw => 7,
-            Field::Kva => 8,
-            Field::OffPeakKva => 9,
-            Field::ContractedLoad => 10,
-        }
+        self as u8
     }
 }
 
-impl RatingFault {
-    // The refusal's number, layer and field.
-    pub fn refusal(self) -> Refusal
-        ensures { result ≡ fault_refusal self }
-    {
-        let (number, field) = match self {
-            RatingFault::OutOfRange(field) => (4, field),
-            RatingFault::Unused(field) => (5, field),
-            RatingFault::KwAboveKva => (5, Field::Kw),
-            RatingFault::TooManyKwh => (5, Field::OffPeakKwh),
-            RatingFault::LoadTooSmall => (5, Field::ContractedLoad),
+impl From<RatingFault> for Refusal {
+    ghost from_gives = { λ fault refusal. refusal ≡ fault_refusal fault };
+
+    fn from(fault: RatingFault) -> Refusal {
+        let (rule, field) = match fault {
+            RatingFault::OutOfRange(field) => (Rule::OutOfRange, field),
+            RatingFault::Unused(field) => (Rule::Contradiction, field),
+            RatingFault::KwAboveKva => (Rule::Contradiction, Field::Kw),
+            RatingFault::TooManyKwh => (Rule::Contradiction, Field::OffPeakKwh),
+            RatingFault::LoadTooSmall => (Rule::Contradiction, Field::ContractedLoad),
         };
         Refusal {
-            number,
-            layer: RATING,
+            number: rule as u8,
+            layer: Layer::Rating as u8,
             field: field.number(),
         }
     }

@@ -2,7 +2,7 @@
 use crate::schedule::Schedule;
 
 // The numbers of a reading line, each as wide as a line can spell it. What a schedule does not use is 0.
-#[derive(Clone, Copy)]
+#[derive(Clone, Copy, PartialEq, Eq, Debug)]
 pub struct Reading {
     pub schedule: Schedule,
     pub rooms: u64,

@@ -1,9 +1,9 @@
 // The schedules of the rate book, and the rate of a bill.
 ghost use Rattle.std.specs.Prelude.{◌≡◌};
-ghost use Rattle.tariff.specs.Schedules.{code_of, rate_of, rooms_of};
+ghost use Rattle.tariff.specs.Schedules.{code_of, rate_of, rooms_or_refused};
 
 // A schedule, as a reading names it.
-#[derive(Clone, Copy)]
+#[derive(Clone, Copy, PartialEq, Eq, Hash, Debug)]
 pub enum Schedule {
     Grs,
     Lrs,
@@ -34,7 +34,7 @@ pub const SCHEDULES: [Schedule; 11] = [
 ];
 
 // The rooms of a dwelling on the fixed rate.
-#[derive(Clone, Copy)]
+#[derive(Clone, Copy, PartialEq, Eq, Hash, Debug)]
 pub enum Rooms {
     One,
     Two,
@@ -43,8 +43,12 @@ pub enum Rooms {
     Five,
 }
 
-// The rate that a bill is made by: its schedule, the fixed rate with the rooms.
-#[derive(Clone, Copy)]
+// A number of rooms that the fixed rate does not have.
+#[derive(Clone, Copy, PartialEq, Eq, Hash, Debug)]
+pub struct NoSuchRooms(pub u64);
+
+// The rate that a bill is made by. It is no schedule with rooms beside it: only the fixed rate has rooms, and always has them.
+#[derive(Clone, Copy, PartialEq, Eq, Hash, Debug)]
 pub enum Rate {
     Grs,
     Lrs,
@@ -87,7 +91,7 @@ impl Schedule {
             Schedule::Grs => Rate::Grs,
             Schedule::Lrs => Rate::Lrs,
             Schedule::Rh3 => Rate::Rh3,
-            Schedule::Rfr => Rate::Rfr(Rooms::from_count(rooms)?),
+            Schedule::Rfr => Rate::Rfr(Rooms::try_from(rooms).ok()?),
             Schedule::Gss => Rate::Gss,
             Schedule::Gsp => Rate::Gsp,
             Schedule::Gst => Rate::Gst,
@@ -100,17 +104,19 @@ impl Schedule {
     }
 }
 
-impl Rooms {
-    pub(crate) fn from_count(rooms: u64) -> Option<Self>
-        ensures { result ≡ rooms_of rooms }
-    {
-        match rooms {
-            1 => Some(Rooms::One),
-            2 => Some(Rooms::Two),
-            3 => Some(Rooms::Three),
-            4 => Some(Rooms::Four),
-            5 => Some(Rooms::Five),
-            _ => None,
+impl TryFrom<u64> for Rooms {
+    type Error = NoSuchRooms;
+
+    ghost try_from_gives = { λ count rooms. rooms ≡ rooms_or_refused count };
+
+    fn try_from(count: u64) -> Result<Self, NoSuchRooms> {
+        match count {
+            1 => Ok(Rooms::One),
+            2 => Ok(Rooms::Two),
+            3 => Ok(Rooms::Three),
+            4 => Ok(Rooms::Four),
+            5 => Ok(Rooms::Five),
+            _ => Err(NoSuchRooms(count)),
         }
     }
 }
