@@ -3,6 +3,7 @@ pub mod Faults
 pub mod Orders
 pub mod Schedules
 pub mod Readings
+pub mod Texts
 pub mod Usages
 pub mod Sheets
 pub mod Lines

@@ -1,8 +1,11 @@
 // Why a reading is not rated.
-ghost use Rattle.std.specs.Prelude.{◌≡◌};
+ghost use Rattle.std.specs.Prelude.{◌≡◌, Some};
 ghost use Rattle.tariff.specs.Faults.{fault_refusal, field_number};
+ghost use Rattle.tariff.specs.Texts.{field_text, fault_text};
 
 use crate::refusal::{Layer, Refusal, Rule};
+use std::error::Error;
+use std::fmt;
 
 // A number of a reading, by its place on the call line, counted from 1.
 #[derive(Clone, Copy, PartialEq, Eq, Hash, Debug)]
@@ -49,6 +52,38 @@ impl Field {
         self as u8
     }
 }
+
+impl fmt::Display for Field {
+    ghost output = { λ field. Some (field_text field) };
+
+    fn fmt<W: fmt::Write>(&self, f: &mut fmt::Formatter<W>) -> fmt::Result {
+        f.write_str(match self {
+            Field::Rooms => "rooms",
+            Field::Kwh => "kWh",
+            Field::OffPeakKwh => "off-peak kWh",
+            Field::Kw => "kW",
+            Field::Kva => "kVA",
+            Field::OffPeakKva => "off-peak kVA",
+            Field::ContractedLoad => "contracted load",
+        })
+    }
+}
+
+impl fmt::Display for RatingFault {
+    ghost output = { λ fault. Some (fault_text fault) };
+
+    fn fmt<W: fmt::Write>(&self, f: &mut fmt::Formatter<W>) -> fmt::Result {
+        match self {
+            RatingFault::OutOfRange(field) => write!(f, "{field} out of range"),
+            RatingFault::Unused(field) => write!(f, "{field} not used by this schedule, and not 0"),
+            RatingFault::KwAboveKva => write!(f, "more kW than kVA"),
+            RatingFault::TooManyKwh => write!(f, "too many kWh in both periods together"),
+            RatingFault::LoadTooSmall => write!(f, "contracted load too small for time of use"),
+        }
+    }
+}
+
+impl Error for RatingFault {}
 
 impl From<RatingFault> for Refusal {
     ghost from_gives = { λ fault refusal. refusal ≡ fault_refusal fault };

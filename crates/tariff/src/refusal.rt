@@ -1,4 +1,8 @@
 // A refusal as it is told to the outside: which rule was broken, in which layer, at which field of the call line.
+ghost use Rattle.std.specs.Prelude.{Some};
+ghost use Rattle.tariff.specs.Texts.{refusal_text};
+
+use std::fmt;
 
 // The rules of the rate book.
 #[derive(Clone, Copy, PartialEq, Eq, Hash, Debug)]
@@ -30,4 +34,12 @@ pub struct Refusal {
     pub number: u8,
     pub layer: u8,
     pub field: u8,
+}
+
+impl fmt::Display for Refusal {
+    ghost output = { λ refusal. Some (refusal_text refusal) };
+
+    fn fmt<W: fmt::Write>(&self, f: &mut fmt::Formatter<W>) -> fmt::Result {
+        write!(f, "{},{},{}", self.number, self.layer, self.field)
+    }
 }

@@ -1,6 +1,10 @@
 // The schedules of the rate book, and the rate of a bill.
-ghost use Rattle.std.specs.Prelude.{◌≡◌};
+ghost use Rattle.std.specs.Prelude.{◌≡◌, Some};
 ghost use Rattle.tariff.specs.Schedules.{code_of, rate_of, rooms_or_refused};
+ghost use Rattle.tariff.specs.Texts.{no_such_rooms_text};
+
+use std::error::Error;
+use std::fmt;
 
 // A schedule, as a reading names it.
 #[derive(Clone, Copy, PartialEq, Eq, Hash, Debug)]
@@ -104,6 +108,14 @@ impl Schedule {
     }
 }
 
+impl fmt::Display for Schedule {
+    ghost output = { λ schedule. Some (code_of schedule) };
+
+    fn fmt<W: fmt::Write>(&self, f: &mut fmt::Formatter<W>) -> fmt::Result {
+        f.write_str(self.code())
+    }
+}
+
 impl TryFrom<u64> for Rooms {
     type Error = NoSuchRooms;
 
@@ -120,3 +132,13 @@ impl TryFrom<u64> for Rooms {
         }
     }
 }
+
+impl fmt::Display for NoSuchRooms {
+    ghost output = { λ e. Some (no_such_rooms_text e) };
+
+    fn fmt<W: fmt::Write>(&self, f: &mut fmt::Formatter<W>) -> fmt::Result {
+        write!(f, "no fixed rate for {} rooms", self.0)
+    }
+}
+
+impl Error for NoSuchRooms {}
