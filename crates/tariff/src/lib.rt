@@ -6,6 +6,7 @@ mod book;
 mod check;
 pub mod fault;
 mod lines;
+mod priced;
 mod rating;
 pub mod reading;
 pub mod refusal;

@@ -7,7 +7,7 @@ use crate::schedule::Schedule;
 use std::fmt;
 
 // The numbers of a reading line, each as wide as a line can spell it. What a schedule does not use is 0.
-#[derive(Clone, Copy, PartialEq, Eq, Debug)]
+#[derive(Clone, Copy, PartialEq, Eq, Hash, Debug)]
 pub struct Reading {
     pub schedule: Schedule,
     pub rooms: u64,

@@ -14,6 +14,8 @@ pub(crate) struct Usage {
     pub(crate) off_peak_kva: u32,
     pub(crate) contracted_load: u32,
     ghost few: { kwh + off_peak_kwh ≤ max_kwh },
-    ghost drawn: { (kw ≤ max_demand) × (kva ≤ max_demand) × (off_peak_kva ≤ max_demand) },
+    ghost kw_low: { kw ≤ max_demand },
+    ghost kva_low: { kva ≤ max_demand },
+    ghost off_peak_kva_low: { off_peak_kva ≤ max_demand },
     ghost contracted: { contracted_load ≤ max_demand },
 }

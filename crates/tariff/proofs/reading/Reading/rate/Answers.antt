@@ -2,8 +2,5 @@
 use Rattle.tariff.proofs.Bills.{rates}
 use Rattle.tariff.proofs.reading.Reading.rate.Goals as goal
 
-pub returns : goal.returns
-returns c = record {
-  verdict = c.in_ok-usage.ensures.verdict;
-  values = rates c.args.self.now _ c.rated.result c.in_ok-usage.ensures.values c.rated.ensures;
-}
+pub returns-clause-values : goal.returns-clause-values
+returns-clause-values c = rates c.args.self.now _ c.rated.result c.in_ok-usage.ensures.values (rw c.priced.ensures at c.rated.ensures)
