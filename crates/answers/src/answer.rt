@@ -10,7 +10,7 @@ pub const RIDER_LINES: usize = HOUSE_RIDERS.len();
 // The most bytes of an answer line, its line feed aside: a bill whose every number is as long as its type allows.
 pub const MAX_ANSWER: usize = 298;
 
-#[derive(Clone, Copy)]
+#[derive(Clone, Copy, PartialEq, Eq, Debug)]
 pub enum Answer<'a> {
     // a bill, with the account of the call and the riders' lines in the order of the bank
     Bill {

@@ -1,5 +1,5 @@
 // Writing an answer line.
-ghost use Rattle.std.specs.Prelude.{◌≡◌, ◌*◌, ◌<◌, ◌≤◌, [], ◌∷◌, map, length, is_ok, if◌then◌else◌, Ok};
+ghost use Rattle.std.specs.Prelude.{◌≡◌, ◌<◌, ◌≤◌, [], ◌∷◌, length, is_ok, if◌then◌else◌, Ok};
 ghost use Rattle.std.specs.Fmt.{signed_decimal};
 ghost use Rattle.fields.specs.Buffers.{at_front};
 ghost use Rattle.fields.specs.Lines.{with_commas};
@@ -10,7 +10,7 @@ ghost use Rattle.answers.specs.Limits.{max_answer};
 ghost use Rattle.answers.specs.Lines.{reply_letter, field_bytes, reply_line, misspellings, answered};
 ghost use Rattle.answers.specs.Replies.{amounts, base_lines, meaning};
 
-use crate::answer::{Answer, MAX_ANSWER};
+use crate::answer::{Answer, MAX_ANSWER, RIDER_LINES};
 use fields::account::is_account;
 use fields::buffer::copy_line;
 use fields::code::Coded;
@@ -20,34 +20,32 @@ use fields::rider::HouseRider;
 use money::amount::{Cents, MicroDollars};
 use tariff::bill::BaseLines;
 
-fn put_amounts(buffer: &mut LineBuffer<MAX_ANSWER>, lines: &[Cents])
-    ensures value { Extends max_answer buffer.old buffer.new (with_commas (map signed_decimal (amounts lines.now))) }
-    ensures bound { length (with_commas (map signed_decimal (amounts lines.now))) ≤ 21 * length lines.now }
-{
-    for line in lines {
-        buffer.integer(line.0);
-    }
-}
-
 // The base lines in the order of the answer.
-fn base_lines(base: &BaseLines) -> [Cents; 5]
-    ensures { result ≡ base_lines base.now }
+fn base_lines(base: &BaseLines) -> [i64; 5]
+    ensures { result ≡ amounts (base_lines base.now) }
 {
     [
-        base.customer,
-        base.energy,
-        base.demand,
-        base.excess,
-        base.lift,
+        base.customer.0,
+        base.energy.0,
+        base.demand.0,
+        base.excess.0,
+        base.lift.0,
     ]
+}
+
+fn rider_lines(lines: &[Cents; RIDER_LINES]) -> [i64; RIDER_LINES]
+    ensures { result ≡ amounts lines.now }
+{
+    lines.map(|line| line.0)
 }
 
 // A rider's code, and an amount of its money.
 fn put_money(buffer: &mut LineBuffer<MAX_ANSWER>, rider: HouseRider, money: MicroDollars)
-    ensures { Extends max_answer buffer.old buffer.new (with_commas (rider_code rider ∷ signed_decimal money.0 ∷ [])) }
+    ensures value { Extends max_answer buffer.old buffer.new (with_commas (rider_code rider ∷ signed_decimal money.0 ∷ [])) }
+    ensures bound { length (with_commas (rider_code rider ∷ signed_decimal money.0 ∷ [])) < 32 }
 {
     buffer.field(rider.code_bytes());
-    buffer.integer(money.0);
+    buffer.number(money.0);
 }
 
 impl<'a> Answer<'a> {
@@ -90,14 +88,14 @@ impl<'a> Answer<'a> {
                 riders,
                 total,
             } => {
-                buffer.natural(u64::from(number));
+                buffer.number(number);
                 buffer.field(account);
-                put_amounts(buffer, &base_lines(&base));
-                put_amounts(buffer, &riders);
-                buffer.integer(total.0);
+                buffer.numbers(&base_lines(&base));
+                buffer.numbers(&rider_lines(&riders));
+                buffer.number(total.0);
             }
-            Answer::Posted { number } => buffer.natural(u64::from(number)),
-            Answer::Voided { number } => buffer.natural(u64::from(number)),
+            Answer::Posted { number } => buffer.number(number),
+            Answer::Voided { number } => buffer.number(number),
             Answer::Filed { rider, factor } => put_money(buffer, rider, factor),
             Answer::Entered { rider, balance } => put_money(buffer, rider, balance),
             Answer::Report {
@@ -110,17 +108,17 @@ impl<'a> Answer<'a> {
                 entered,
             } => {
                 buffer.field(rider.code_bytes());
-                buffer.integer(balance.0);
-                buffer.integer(factor.0);
-                buffer.natural(forecast);
-                buffer.natural(sold);
-                buffer.natural(u64::from(bills));
-                buffer.integer(entered.0);
+                buffer.number(balance.0);
+                buffer.number(factor.0);
+                buffer.number(forecast);
+                buffer.number(sold);
+                buffer.number(bills);
+                buffer.number(entered.0);
             }
             Answer::Refused(refusal) => {
-                buffer.natural(u64::from(refusal.number));
-                buffer.natural(u64::from(refusal.layer));
-                buffer.natural(u64::from(refusal.field));
+                buffer.number(refusal.number);
+                buffer.number(refusal.layer);
+                buffer.number(refusal.field);
             }
         }
     }

@@ -2,7 +2,7 @@
 use Rattle.std.proofs.Common.{◌≡◌, ℕ, Bool, true, false, cond, not, eqb, List, [], ◌∷◌, ◌++◌, refl, ap}
 use Rattle.std.proofs.lemmas.Bool.{and_parts, not-true, eqb-true}
 use Rattle.fields.specs.Lines.{with_commas}
-use Rattle.fields.proofs.Spellings.{plain}
+use Rattle.fields.specs.Lines.{plain}
 use Rattle.calls.specs.Splits.{split, onto, next, later}
 use Rattle.calls.proofs.Fields.{split_parts}
 

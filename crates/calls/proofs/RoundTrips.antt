@@ -6,16 +6,15 @@ use Rattle.fields.specs.Buffers.{copied, at_front}
 use Rattle.fields.specs.Lines.{with_commas}
 use Rattle.fields.specs.declared.fault.LineFault.{LineFault}
 use Rattle.fields.specs.declared.fault.LineFault.TheVariants.{Shape}
-use Rattle.fields.proofs.Codes.{coded_text}
 use Rattle.fields.proofs.Copies.{copied_length}
-use Rattle.fields.proofs.Spellings.{plain}
 use Rattle.tariff.proofs.Orders.{Clear}
 use Rattle.calls.specs.declared.call.Call.{Call}
 use Rattle.calls.specs.declared.letter.Letter.{Letter}
 use Rattle.calls.specs.declared.letter.Letter.TheVariants.{Rate, Post, Void, File, Enter, Report}
+use Rattle.calls.specs.LetterLaws.{letter_said, letter_again}
 use Rattle.calls.specs.Limits.{max_line}
 use Rattle.calls.specs.Formats.{Format, Values, value_in, format, Placed, record_of}
-use Rattle.calls.specs.Letters.{letter_code, letters, letter_of}
+use Rattle.calls.specs.Letters.{letter_code, letter_of}
 use Rattle.calls.specs.Reads.{meant, taken, read_by, read_as, read_after, read_line}
 use Rattle.calls.specs.Records.{Record, meaning, rate, post, void, file, enter, report}
 use Rattle.calls.specs.Splits.{split, next, later}
@@ -59,20 +58,6 @@ said (f ∷ fs) (b ∷ bs) make x l e =
       fields = rw (t.0, s.fields) refl;
       clear = (not_from_true _ t.1, s.clear);
     }
-
--- letters
-letter_back : (l : Letter) → (letter_of (letter_code l) ≡ Some l) × (plain (letter_code l) ≡ true)
-unfolding letter_of
-letter_back Rate = (refl, refl)
-letter_back Post = (refl, refl)
-letter_back Void = (refl, refl)
-letter_back File = (refl, refl)
-letter_back Enter = (refl, refl)
-letter_back Report = (refl, refl)
-
-letter_text : (bs : List ℕ) (l : Letter) → letter_of bs ≡ Some l → letter_code l ≡ bs
-unfolding letter_of
-letter_text bs l e = coded_text letter_code letters bs l e
 
 -- a call and its values
 same_record : (r : Record) → record_of (letter r) (values_of r) ≡ r
@@ -120,7 +105,7 @@ unfolding line_of field_bytes
 reads_back r s k =
     let l = letter r in
     let vs = values_of r in
-    let b = letter_back l in
+    let b = letter_again l refl in
     let q : split (line_of r) ≡ letter_code l ∷ spellings (format l) vs = split_joined (letter_code l) (spellings (format l) vs) b.1 (plain_back (format l) vs k) in
     read_shaped (line_of r) l s (rw q b.0) (sym (eq-eqb _ _ (ap (λ (fs : List (List ℕ)). length (later fs)) q ∙ spelt_count (format l) vs)))
     ∙ (rw q (read_back (format l) vs (record_of l) k) ∙ ap (λ (x : Record). Ok x) (same_record r))
@@ -163,7 +148,7 @@ same_line line r a =
     let s = a.fields in
     let T : Record → Type 0 = λ x. Listed l s.values x in
     let m = subst T s.is (listed l s.values) in
-    (m.line ∙ (rw (s.fields, letter_text _ l a.letter) (joined_split line)), m.clear s.clear)
+    (m.line ∙ (rw (s.fields, (letter_said _ l a.letter).0) (joined_split line)), m.clear s.clear)
 
 rewrites : (line : List ℕ) (r : Record) → read_line line ≡ Ok r → Rewrites line r
 rewrites line r e =

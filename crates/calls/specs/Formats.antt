@@ -10,7 +10,9 @@ use Rattle.tariff.specs.declared.fault.Field.TheVariants.{Rooms, Kwh, OffPeakKwh
 use Rattle.tariff.specs.declared.schedule.Schedule.{Schedule}
 use Rattle.calls.specs.declared.letter.Letter.{Letter}
 use Rattle.calls.specs.declared.letter.Letter.TheVariants as by
-use Rattle.calls.specs.Names.{account_of, schedule_of, rider_of}
+use Rattle.fields.specs.Codes.{schedule_of}
+use Rattle.fields.specs.Riders.{rider_of}
+use Rattle.calls.specs.Names.{account_of}
 use Rattle.calls.specs.Records.{Record, rate, post, void, file, enter, report}
 
 -- what a field holds

@@ -1,9 +1,9 @@
 pub mod Limits
 pub mod Splits
-pub mod Places
 pub mod Letters
 pub mod Names
 pub mod Records
 pub mod Formats
 pub mod Reads
 pub mod Writes
+pub mod LetterLaws

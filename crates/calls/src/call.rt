@@ -6,7 +6,7 @@ use tariff::reading::Reading;
 // The most bytes of a call line, its line feed aside.
 pub const MAX_LINE: usize = 120;
 
-#[derive(Clone, Copy)]
+#[derive(Clone, Copy, PartialEq, Eq, Debug)]
 pub enum Call<'a> {
     // rate a reading; the account is the part of the line that spells it
     Rate {

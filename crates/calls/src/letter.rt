@@ -1,11 +1,13 @@
 // The letter that a call line begins with.
-ghost use Rattle.std.specs.Prelude.{◌≡◌, length};
-ghost use Rattle.calls.specs.Letters.{letter_code};
+ghost use Rattle.std.specs.Prelude.{◌≡◌, true, length};
+ghost use Rattle.calls.specs.Letters.{letter_code, letter_of};
+ghost use Rattle.calls.specs.LetterLaws.{letter_said, letter_again};
 ghost use Rattle.calls.specs.Formats.{format};
 
-use fields::code::Coded;
+use fields::code::{Coded, find};
+use fields::value::FieldValue;
 
-#[derive(Clone, Copy)]
+#[derive(Clone, Copy, PartialEq, Eq, Debug)]
 pub(crate) enum Letter {
     Rate,
     Post,
@@ -14,6 +16,15 @@ pub(crate) enum Letter {
     Enter,
     Report,
 }
+
+const LETTERS: [Letter; 6] = [
+    Letter::Rate,
+    Letter::Post,
+    Letter::Void,
+    Letter::File,
+    Letter::Enter,
+    Letter::Report,
+];
 
 impl Letter {
     // How many fields follow the letter.
@@ -34,14 +45,31 @@ impl Letter {
 impl Coded for Letter {
     ghost spelling = { letter_code };
 
-    fn code_bytes(self) -> &'static [u8] {
+    fn code(self) -> &'static str {
         match self {
-            Letter::Rate => b"R",
-            Letter::Post => b"P",
-            Letter::Void => b"V",
-            Letter::File => b"F",
-            Letter::Enter => b"C",
-            Letter::Report => b"Q",
+            Letter::Rate => "R",
+            Letter::Post => "P",
+            Letter::Void => "V",
+            Letter::File => "F",
+            Letter::Enter => "C",
+            Letter::Report => "Q",
         }
+    }
+}
+
+impl FieldValue for Letter {
+    ghost value_of = { letter_of };
+
+    ghost spelling = { letter_code };
+
+    ghost spellable = { λ _. true };
+
+    ghost said = { letter_said };
+
+    ghost again = { letter_again };
+
+    #[tactic(auto, unfolding(crate::specs::Letters::letter_of))]
+    fn read(bytes: &[u8]) -> Option<Letter> {
+        find(&LETTERS, bytes)
     }
 }

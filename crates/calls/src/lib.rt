@@ -3,7 +3,6 @@
 
 pub mod call;
 mod letter;
-mod names;
 mod read;
 mod reader;
 mod write;

@@ -2,7 +2,6 @@
 ghost use Rattle.std.specs.Prelude.{◌≡◌, length, IfOk, ◌==◌, nat_lt};
 ghost use Rattle.calls.specs.Limits.{max_line};
 ghost use Rattle.calls.specs.Formats.{format, Placed};
-ghost use Rattle.calls.specs.Places.{left};
 ghost use Rattle.calls.specs.Records.{meaning};
 ghost use Rattle.calls.specs.Splits.{split, later};
 ghost use Rattle.calls.specs.Writes.{Rewrites};
@@ -10,8 +9,7 @@ ghost use Rattle.calls.specs.Reads.{meant, read_as, read_line};
 
 use crate::call::{Call, MAX_LINE};
 use crate::letter::Letter;
-use crate::names::letter_of;
-use crate::reader::{Reader, commas};
+use crate::reader::{Reader, later_count};
 use fields::fault::{LineFault, LineField};
 use money::amount::MicroDollars;
 use tariff::fault::Field;
@@ -27,38 +25,38 @@ fn too_long(line: &[u8]) -> bool
 fn is_complete(line: &[u8], letter: Letter) -> bool
     ensures { result ≡ (length (later (split line.now)) == length (format letter)) }
 {
-    commas(line) == letter.field_count()
+    later_count(line) == letter.field_count()
 }
 
-// The fields after the letter R.
+// The fields after the letter R. That each is taken by a `let .. else`, here and below, is a rule of the project.
 fn rate<'a>(reader: &mut Reader<'a>) -> Result<Call<'a>, LineFault>
-    ensures { meant result ≡ read_as Letter.Rate (left reader.old) }
+    ensures { meant result ≡ read_as Letter.Rate reader.old }
 {
     let Some(account) = reader.account() else {
         return Err(LineFault::Misspelt(LineField::Account));
     };
-    let Some(schedule) = reader.schedule() else {
+    let Some(schedule) = reader.value() else {
         return Err(LineFault::UnknownSchedule);
     };
-    let Some(rooms) = reader.natural() else {
+    let Some(rooms) = reader.value() else {
         return Err(LineFault::Misspelt(LineField::Reading(Field::Rooms)));
     };
-    let Some(kwh) = reader.natural() else {
+    let Some(kwh) = reader.value() else {
         return Err(LineFault::Misspelt(LineField::Reading(Field::Kwh)));
     };
-    let Some(off_peak_kwh) = reader.natural() else {
+    let Some(off_peak_kwh) = reader.value() else {
         return Err(LineFault::Misspelt(LineField::Reading(Field::OffPeakKwh)));
     };
-    let Some(kw) = reader.natural() else {
+    let Some(kw) = reader.value() else {
         return Err(LineFault::Misspelt(LineField::Reading(Field::Kw)));
     };
-    let Some(kva) = reader.natural() else {
+    let Some(kva) = reader.value() else {
         return Err(LineFault::Misspelt(LineField::Reading(Field::Kva)));
     };
-    let Some(off_peak_kva) = reader.natural() else {
+    let Some(off_peak_kva) = reader.value() else {
         return Err(LineFault::Misspelt(LineField::Reading(Field::OffPeakKva)));
     };
-    let Some(contracted_load) = reader.natural() else {
+    let Some(contracted_load) = reader.value() else {
         return Err(LineFault::Misspelt(LineField::Reading(Field::ContractedLoad)));
     };
     let reading = Reading {
@@ -76,15 +74,15 @@ fn rate<'a>(reader: &mut Reader<'a>) -> Result<Call<'a>, LineFault>
 
 // The fields after the letter F.
 fn file<'a>(reader: &mut Reader<'a>) -> Result<Call<'a>, LineFault>
-    ensures { meant result ≡ read_as Letter.File (left reader.old) }
+    ensures { meant result ≡ read_as Letter.File reader.old }
 {
-    let Some(rider) = reader.rider() else {
+    let Some(rider) = reader.value() else {
         return Err(LineFault::UnknownRider);
     };
-    let Some(cost) = reader.integer() else {
+    let Some(cost) = reader.value() else {
         return Err(LineFault::Misspelt(LineField::Cost));
     };
-    let Some(forecast) = reader.natural() else {
+    let Some(forecast) = reader.value() else {
         return Err(LineFault::Misspelt(LineField::Forecast));
     };
     Ok(Call::File {
@@ -96,12 +94,12 @@ fn file<'a>(reader: &mut Reader<'a>) -> Result<Call<'a>, LineFault>
 
 // The fields after the letter C.
 fn enter<'a>(reader: &mut Reader<'a>) -> Result<Call<'a>, LineFault>
-    ensures { meant result ≡ read_as Letter.Enter (left reader.old) }
+    ensures { meant result ≡ read_as Letter.Enter reader.old }
 {
-    let Some(rider) = reader.rider() else {
+    let Some(rider) = reader.value() else {
         return Err(LineFault::UnknownRider);
     };
-    let Some(amount) = reader.integer() else {
+    let Some(amount) = reader.value() else {
         return Err(LineFault::Misspelt(LineField::Amount));
     };
     Ok(Call::Enter {
@@ -112,16 +110,17 @@ fn enter<'a>(reader: &mut Reader<'a>) -> Result<Call<'a>, LineFault>
 
 // The field after the letter Q.
 fn report<'a>(reader: &mut Reader<'a>) -> Result<Call<'a>, LineFault>
-    ensures { meant result ≡ read_as Letter.Report (left reader.old) }
+    ensures { meant result ≡ read_as Letter.Report reader.old }
 {
-    let Some(rider) = reader.rider() else {
+    let Some(rider) = reader.value() else {
         return Err(LineFault::UnknownRider);
     };
     Ok(Call::Report { rider })
 }
 
+// A table of these functions by letter would be no plainer: a match is complete, and the two letters with no field need none.
 fn read_fields<'a>(letter: Letter, reader: &mut Reader<'a>) -> Result<Call<'a>, LineFault>
-    ensures { meant result ≡ read_as letter (left reader.old) }
+    ensures { meant result ≡ read_as letter reader.old }
 {
     match letter {
         Letter::Rate => rate(reader),
@@ -144,7 +143,7 @@ impl<'a> Call<'a> {
             return Err(LineFault::Shape);
         }
         let mut reader = Reader::new(line);
-        let Some(letter) = letter_of(reader.field()) else {
+        let Some(letter) = reader.value::<Letter>() else {
             return Err(LineFault::Shape);
         };
         if !is_complete(line, letter) {

@@ -1,22 +1,32 @@
 // A line, read field by field.
-ghost use Rattle.std.specs.Prelude.{◌≡◌, suc, ◌≤◌, length, take};
+ghost use Rattle.std.specs.Prelude.{◌≡◌, ℕ, List, suc, ◌≤◌, ◌==◌, length, take, count_by, position};
 ghost use Rattle.std.specs.Option.{option_map};
-ghost use Rattle.fields.specs.Numbers.{natural_of, integer_of};
-ghost use Rattle.calls.specs.Names.{account_of, schedule_of, rider_of};
-ghost use Rattle.calls.specs.Places.{left};
+ghost use Rattle.calls.specs.Names.{account_of};
 ghost use Rattle.calls.specs.Splits.{split, left_at, next, later};
 
-use crate::names::{rider_of, schedule_of};
 use fields::account::is_account;
-use fields::number::{integer, natural};
-use fields::rider::HouseRider;
-use tariff::schedule::Schedule;
+use fields::value::FieldValue;
+use std::marker::Model;
 
-// The line, and the place that its reader has come to. Past the last field every further one is empty.
+// The line, and the place that its reader has come to; a rule of the project, in place of a list of parts. Past the last field every
+// further one is empty.
 #[derive(Drop)]
 pub(crate) struct Reader<'a> {
     line: &'a [u8],
     at: usize,
+}
+
+// Contracts see the fields that are yet to be taken.
+impl<'a> Model for Reader<'a> {
+    ghost Value = { List (List ℕ) };
+
+    ghost view = { λ r. left_at r.line.now r.at };
+}
+
+fn first_comma(bytes: &[u8]) -> Option<usize>
+    ensures { result ≡ position (λ c. c == 44) bytes.now }
+{
+    bytes.iter().position(|byte| *byte == b',')
 }
 
 // How many bytes stand before the first comma, or before the end.
@@ -25,37 +35,33 @@ fn field_len(bytes: &[u8]) -> usize
     ensures value { take result bytes.now ≡ next (split bytes.now) }
     ensures after { left_at bytes.now (suc result) ≡ later (split bytes.now) }
 {
-    let mut len = 0;
-    while len < bytes.len() && bytes[len] != b',' {
-        len += 1;
-    }
-    len
+    first_comma(bytes).unwrap_or(bytes.len())
 }
 
 // How many fields follow the first one: each has a comma before it.
-pub(crate) fn commas(line: &[u8]) -> usize
+pub(crate) fn later_count(line: &[u8]) -> usize
     ensures { result ≡ length (later (split line.now)) }
 {
-    let mut count = 0;
-    for byte in line {
-        if *byte == b',' {
-            count += 1;
-        }
-    }
-    count
+    commas(line)
+}
+
+fn commas(bytes: &[u8]) -> usize
+    ensures { result ≡ count_by (λ c. c == 44) bytes.now }
+{
+    bytes.iter().filter(|byte| **byte == b',').count()
 }
 
 impl<'a> Reader<'a> {
     pub(crate) fn new(line: &'a [u8]) -> Self
-        ensures { left result ≡ split line.now }
+        ensures { result ≡ split line.now }
     {
         Reader { line, at: 0 }
     }
 
     // The next field's bytes.
     pub(crate) fn field(&mut self) -> &'a [u8]
-        ensures value { result.now ≡ next (left self.old) }
-        ensures after { left self.new ≡ later (left self.old) }
+        ensures value { result.now ≡ next self.old }
+        ensures after { self.new ≡ later self.old }
     {
         let line = self.line;
         let from = self.at;
@@ -68,38 +74,18 @@ impl<'a> Reader<'a> {
     }
 
     pub(crate) fn account(&mut self) -> Option<&'a [u8]>
-        ensures value { option_map (λ x. x.now) result ≡ account_of (next (left self.old)) }
-        ensures after { left self.new ≡ later (left self.old) }
+        ensures value { option_map (λ x. x.now) result ≡ account_of (next self.old) }
+        ensures after { self.new ≡ later self.old }
     {
         let bytes = self.field();
-        if is_account(bytes) { Some(bytes) } else { None }
+        is_account(bytes).then_some(bytes)
     }
 
-    pub(crate) fn natural(&mut self) -> Option<u64>
-        ensures value { result ≡ natural_of (next (left self.old)) }
-        ensures after { left self.new ≡ later (left self.old) }
+    // The next field's value.
+    pub(crate) fn value<T: FieldValue>(&mut self) -> Option<T>
+        ensures value { result ≡ T.value_of (next self.old) }
+        ensures after { self.new ≡ later self.old }
     {
-        natural(self.field())
-    }
-
-    pub(crate) fn integer(&mut self) -> Option<i64>
-        ensures value { result ≡ integer_of (next (left self.old)) }
-        ensures after { left self.new ≡ later (left self.old) }
-    {
-        integer(self.field())
-    }
-
-    pub(crate) fn schedule(&mut self) -> Option<Schedule>
-        ensures value { result ≡ schedule_of (next (left self.old)) }
-        ensures after { left self.new ≡ later (left self.old) }
-    {
-        schedule_of(self.field())
-    }
-
-    pub(crate) fn rider(&mut self) -> Option<HouseRider>
-        ensures value { result ≡ rider_of (next (left self.old)) }
-        ensures after { left self.new ≡ later (left self.old) }
-    {
-        rider_of(self.field())
+        T::read(self.field())
     }
 }

@@ -1,8 +1,7 @@
 // Writing a call line.
-ghost use Rattle.std.specs.Prelude.{◌≡◌, map, length, take, is_ok, IfOk, if◌then◌else◌, Ok, decimal};
+ghost use Rattle.std.specs.Prelude.{◌≡◌, map, find, length, take, is_ok, IfOk, if◌then◌else◌, Ok};
 ghost use Rattle.fields.specs.Buffers.{at_front};
 ghost use Rattle.fields.specs.LineBuffers.{Extends};
-ghost use Rattle.fields.specs.Lines.{with_commas};
 ghost use Rattle.tariff.specs.Orders.{decision, verdict};
 ghost use Rattle.tariff.specs.Readings.{fields, number_in};
 ghost use Rattle.calls.specs.Limits.{max_line};
@@ -21,45 +20,31 @@ use fields::number::{spells_integer, spells_natural};
 use tariff::fault::{FIELDS, Field};
 use tariff::reading::Reading;
 
-fn unspellable(reading: &Reading, field: Field) -> bool
-    ensures { result ≡ (misspelt_number reading.now field).0 }
+// The first number of a reading that no field can spell.
+fn unspellable(reading: &Reading) -> Option<Field>
+    ensures { result ≡ find (λ f. (misspelt_number reading.now f).0) fields }
 {
-    !spells_natural(reading.number(field))
+    FIELDS
+        .iter()
+        .copied()
+        .find(|field| !spells_natural(reading.number(*field)))
 }
 
-// The first number of a reading that no field can spell is refused.
+// It is refused.
 fn check_numbers(reading: &Reading) -> Result<(), LineFault>
     ensures { verdict result ≡ decision (map (misspelt_number reading.now) fields) }
 {
-    for field in &FIELDS {
-        if unspellable(reading, *field) {
-            return Err(LineFault::Misspelt(LineField::Reading(*field)));
-        }
+    match unspellable(reading) {
+        Some(field) => Err(LineFault::Misspelt(LineField::Reading(field))),
+        None => Ok(()),
     }
-    Ok(())
 }
 
 // The numbers of a reading, in the order of the line.
 fn numbers(reading: &Reading) -> [u64; 7]
     ensures { result ≡ map (number_in reading.now) fields }
 {
-    [
-        reading.rooms,
-        reading.kwh,
-        reading.off_peak_kwh,
-        reading.kw,
-        reading.kva,
-        reading.off_peak_kva,
-        reading.contracted_load,
-    ]
-}
-
-fn put_numbers(buffer: &mut LineBuffer<MAX_LINE>, numbers: &[u64])
-    ensures { Extends max_line buffer.old buffer.new (with_commas (map decimal numbers.now)) }
-{
-    for number in numbers {
-        buffer.natural(*number);
-    }
+    FIELDS.map(|field| reading.number(field))
 }
 
 impl<'a> Call<'a> {
@@ -114,7 +99,7 @@ impl<'a> Call<'a> {
             Call::Rate { account, reading } => {
                 buffer.field(account);
                 buffer.field(reading.schedule.code_bytes());
-                put_numbers(buffer, &numbers(&reading));
+                buffer.numbers(&numbers(&reading));
             }
             Call::Post | Call::Void => {}
             Call::File {
@@ -123,12 +108,12 @@ impl<'a> Call<'a> {
                 forecast,
             } => {
                 buffer.field(rider.code_bytes());
-                buffer.integer(cost.0);
-                buffer.natural(forecast);
+                buffer.number(cost.0);
+                buffer.number(forecast);
             }
             Call::Enter { rider, amount } => {
                 buffer.field(rider.code_bytes());
-                buffer.integer(amount.0);
+                buffer.number(amount.0);
             }
             Call::Report { rider } => buffer.field(rider.code_bytes()),
         }
@@ -144,9 +129,7 @@ impl<'a> Call<'a> {
         let mut buffer = LineBuffer::<MAX_LINE>::new();
         buffer.append(self.letter().code_bytes());
         self.put_fields(&mut buffer);
-        let Some(line) = buffer.line() else {
-            return Err(LineFault::Shape);
-        };
+        let line = buffer.line().ok_or(LineFault::Shape)?;
         self.check_spelling()?;
         copy_line(line, out)
     }

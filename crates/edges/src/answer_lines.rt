@@ -1,5 +1,5 @@
 // Answer lines: one of each letter, the longest of all, and what is refused.
-use crate::told::{Told, bytes_or_refused};
+use crate::told::{refused, written};
 use answers::answer::{Answer, MAX_ANSWER};
 use fields::rider::HouseRider;
 use money::amount::{Cents, MicroDollars};
@@ -84,7 +84,7 @@ fn report<'a>() -> Answer<'a> {
     }
 }
 
-fn refused<'a>(number: u8, layer: u8, field: u8) -> Answer<'a> {
+fn refusal<'a>(number: u8, layer: u8, field: u8) -> Answer<'a> {
     Answer::Refused(Refusal {
         number,
         layer,
@@ -103,33 +103,33 @@ fn answers_have_their_lines(rt: HostRuntime) -> Result<(), Fail> {
     check_line(&rt, filed(333_333), b"F,FCA,333333")?;
     check_line(&rt, entered(-1), b"C,SUBA-NHH,-1")?;
     check_line(&rt, report(), b"Q,FCA,670000,333333,3,1,1,0")?;
-    check_line(&rt, refused(5, 2, 10), b"X,5,2,10")
+    check_line(&rt, refusal(5, 2, 10), b"X,5,2,10")
 }
 
-// What writing the longest bill into a buffer of so many places answers, and whether the buffer is then as it was.
-fn written(account: &[u8], places: usize) -> (Told, bool) {
-    let mut buffer = [b'.'; 300];
-    let Some(out) = buffer.get_mut(0..places) else {
-        return (Told::Another, false);
-    };
-    let longest = bill(u32::MAX, account, [i64::MIN; 5], [i64::MIN; 7], i64::MIN);
-    let told = bytes_or_refused(longest.write(out));
-    (told, buffer == [b'.'; 300])
+// The longest bill, but for its account.
+fn longest<'a>(account: &'a [u8]) -> Answer<'a> {
+    bill(u32::MAX, account, [i64::MIN; 5], [i64::MIN; 7], i64::MIN)
 }
 
 #[test]
 fn the_longest_answer_fits_and_refusals_leave_the_buffer(rt: HostRuntime) {
     assert_eq!(rt; MAX_ANSWER, 298);
-    assert_eq!(rt; written(b"ABCDEFGHIJKL", 298), (Told::Bytes(298), false));
     assert_eq!(rt;
-        written(b"ABCDEFGHIJKL", 297),
-        (Told::Refused(6, 3, 0), true)
+        written(&rt, 298, |out| longest(b"ABCDEFGHIJKL").write(out)),
+        Ok(298)
     );
     assert_eq!(rt;
-        written(b"ABCDEFGHIJKLM", 0),
-        (Told::Refused(2, 1, 2), true)
+        written(&rt, 297, |out| longest(b"ABCDEFGHIJKL").write(out)),
+        refused!(6, 3, 0)
     );
-    assert_eq!(rt; written(b"", 298), (Told::Refused(2, 1, 2), true));
+    assert_eq!(rt;
+        written(&rt, 0, |out| longest(b"ABCDEFGHIJKLM").write(out)),
+        refused!(2, 1, 2)
+    );
+    assert_eq!(rt;
+        written(&rt, 298, |out| longest(b"").write(out)),
+        refused!(2, 1, 2)
+    );
 }
 
 #[test]

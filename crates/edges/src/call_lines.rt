@@ -1,31 +1,36 @@
-// Call lines read and written: each refusal with its field, the edges of lengths and numbers, and bytes that are no text.
+// Call lines read and written: each refusal with its field, the edges of lengths and numbers, and bytes that are no text. Buffers here
+// and in the other tests are arrays with a length beside them, since the libraries write into the caller's, with no heap.
 use crate::tests::EMPTY;
-use crate::told::{Told, bytes_or_refused, refused};
+use crate::told::{refused, written};
 use calls::call::{Call, MAX_LINE};
 use fields::rider::HouseRider;
 use money::amount::MicroDollars;
 use std::test::Fail;
 use tariff::fault::{FIELDS, Field};
 use tariff::reading::Reading;
+use tariff::refusal::Refusal;
 use tariff::schedule::Schedule;
 
-const SHAPE: Told = Told::Refused(1, 1, 0);
+// How a line stands that was read and written again.
+#[derive(Clone, Copy, PartialEq, Eq, Debug)]
+enum Again {
+    Same,
+    Another,
+}
+
+type Told = Result<Again, Refusal>;
+
+const SAME: Told = Ok(Again::Same);
+
+const SHAPE: Told = refused!(1, 1, 0);
 
 // What becomes of a line that is read and written again.
 fn read_and_written(line: &[u8]) -> Told {
+    let call = Call::read(line)?;
     let mut buffer = [0u8; MAX_LINE];
-    match Call::read(line) {
-        Err(fault) => refused(fault),
-        Ok(call) => match call.write(&mut buffer) {
-            Ok(len) => {
-                if buffer.get(0..len) == Some(line) {
-                    Told::Same
-                } else {
-                    Told::Another
-                }
-            }
-            Err(_) => Told::Another,
-        },
+    match call.write(&mut buffer) {
+        Ok(len) if buffer.get(0..len) == Some(line) => Ok(Again::Same),
+        _ => Ok(Again::Another),
     }
 }
 
@@ -34,46 +39,46 @@ struct Case {
     told: Told,
 }
 
-const CASES: [Case; 61] = [
+const CASES: &[Case] = &[
     Case {
         line: b"F,FCA,1000000,3",
-        told: Told::Same,
+        told: SAME,
     },
     Case {
         line: b"R,A1,GRS,0,1,0,0,0,0,0",
-        told: Told::Same,
+        told: SAME,
     },
     Case {
         line: b"P",
-        told: Told::Same,
+        told: SAME,
     },
     Case {
         line: b"V",
-        told: Told::Same,
+        told: SAME,
     },
     Case {
         line: b"Q,FCA",
-        told: Told::Same,
+        told: SAME,
     },
     Case {
         line: b"C,SUBA-NHH,-15",
-        told: Told::Same,
+        told: SAME,
     },
     Case {
         line: b"C,IMP,0",
-        told: Told::Same,
+        told: SAME,
     },
     Case {
         line: b"C,FOS,9999999999999999",
-        told: Told::Same,
+        told: SAME,
     },
     Case {
         line: b"C,FOS,-9999999999999999",
-        told: Told::Same,
+        told: SAME,
     },
     Case {
         line: b"R,Z9,LP-13,9999999999999999,1,20,300,4000,50000,600000",
-        told: Told::Same,
+        told: SAME,
     },
     Case {
         line: b"",
@@ -141,149 +146,149 @@ const CASES: [Case; 61] = [
     },
     Case {
         line: b"R,,GRS,0,1,0,0,0,0,0",
-        told: Told::Refused(2, 1, 2),
+        told: refused!(2, 1, 2),
     },
     Case {
         line: b"R,A-1,GRS,0,1,0,0,0,0,0",
-        told: Told::Refused(2, 1, 2),
+        told: refused!(2, 1, 2),
     },
     Case {
         line: b"R,a1,GRX,0,1,0,0,0,0,0",
-        told: Told::Refused(2, 1, 2),
+        told: refused!(2, 1, 2),
     },
     Case {
         line: b"R,ABCDEFGHIJKLM,GRS,0,1,0,0,0,0,0",
-        told: Told::Refused(2, 1, 2),
+        told: refused!(2, 1, 2),
     },
     Case {
         line: b"R,A\xff,GRS,0,1,0,0,0,0,0",
-        told: Told::Refused(2, 1, 2),
+        told: refused!(2, 1, 2),
     },
     Case {
         line: b"R,A1,grs,0,1,0,0,0,0,0",
-        told: Told::Refused(3, 1, 3),
+        told: refused!(3, 1, 3),
     },
     Case {
         line: b"R,A1,,x,1,0,0,0,0,0",
-        told: Told::Refused(3, 1, 3),
+        told: refused!(3, 1, 3),
     },
     Case {
         line: b"R,A1,GRS,00,1,0,0,0,0,0",
-        told: Told::Refused(2, 1, 4),
+        told: refused!(2, 1, 4),
     },
     Case {
         line: b"R,A1,GRS,0,,0,0,0,0,0",
-        told: Told::Refused(2, 1, 5),
+        told: refused!(2, 1, 5),
     },
     Case {
         line: b"R,A1,GRS,0,1,-1,0,0,0,0",
-        told: Told::Refused(2, 1, 6),
+        told: refused!(2, 1, 6),
     },
     Case {
         line: b"R,A1,GRS,0,1,0,1a,0,0,0",
-        told: Told::Refused(2, 1, 7),
+        told: refused!(2, 1, 7),
     },
     Case {
         line: b"R,A1,GRS,0,1,0,0,+1,0,0",
-        told: Told::Refused(2, 1, 8),
+        told: refused!(2, 1, 8),
     },
     Case {
         line: b"R,A1,GRS,0,1,0,0,0,10000000000000000,0",
-        told: Told::Refused(2, 1, 9),
+        told: refused!(2, 1, 9),
     },
     Case {
         line: b"R,A1,GRS,0,1,0,0,0,0,1\r",
-        told: Told::Refused(2, 1, 10),
+        told: refused!(2, 1, 10),
     },
     Case {
         line: b"F,FCB,1,x",
-        told: Told::Refused(3, 1, 2),
+        told: refused!(3, 1, 2),
     },
     Case {
         line: b"F,FCA,-0,x",
-        told: Told::Refused(2, 1, 3),
+        told: refused!(2, 1, 3),
     },
     Case {
         line: b"F,FCA,-01,1",
-        told: Told::Refused(2, 1, 3),
+        told: refused!(2, 1, 3),
     },
     Case {
         line: b"F,FCA,--1,1",
-        told: Told::Refused(2, 1, 3),
+        told: refused!(2, 1, 3),
     },
     Case {
         line: b"F,FCA,1,-1",
-        told: Told::Refused(2, 1, 4),
+        told: refused!(2, 1, 4),
     },
     Case {
         line: b"F,FCA,1,12345678901234567",
-        told: Told::Refused(2, 1, 4),
+        told: refused!(2, 1, 4),
     },
     Case {
         line: b"C,FCA,-",
-        told: Told::Refused(2, 1, 3),
+        told: refused!(2, 1, 3),
     },
     Case {
         line: b"C,FCA,-00",
-        told: Told::Refused(2, 1, 3),
+        told: refused!(2, 1, 3),
     },
     Case {
         line: b"C,FCA,-10000000000000000",
-        told: Told::Refused(2, 1, 3),
+        told: refused!(2, 1, 3),
     },
     Case {
         line: b"C,fca,1",
-        told: Told::Refused(3, 1, 2),
+        told: refused!(3, 1, 2),
     },
     Case {
         line: b"Q,",
-        told: Told::Refused(3, 1, 2),
+        told: refused!(3, 1, 2),
     },
     Case {
         line: b"Q,FCA\r",
-        told: Told::Refused(3, 1, 2),
+        told: refused!(3, 1, 2),
     },
     Case {
         line: b"Q,FCA\0",
-        told: Told::Refused(3, 1, 2),
+        told: refused!(3, 1, 2),
     },
     Case {
         line: b"Q,FC",
-        told: Told::Refused(3, 1, 2),
+        told: refused!(3, 1, 2),
     },
     Case {
         line: b"R,A1,GRX,x,1,0,0,0,0,0",
-        told: Told::Refused(3, 1, 3),
+        told: refused!(3, 1, 3),
     },
     Case {
         line: b"R,A1,GRS,0,01,0,0,0,0,0",
-        told: Told::Refused(2, 1, 5),
+        told: refused!(2, 1, 5),
     },
     Case {
         line: b"F,FCA,-0,1",
-        told: Told::Refused(2, 1, 3),
+        told: refused!(2, 1, 3),
     },
     Case {
         line: b"C,FCA,-9999999999999999",
-        told: Told::Same,
+        told: SAME,
     },
     Case {
         line: b"C,FCA,10000000000000000",
-        told: Told::Refused(2, 1, 3),
+        told: refused!(2, 1, 3),
     },
     Case {
         line: b"Q,AAAAAAAAAAAAAAAAAAAAAAAAAAAAAAAAAAAAAAAAAAAAAAAAAAAAAAAAAAAAAAAAAAAAAAAAAAAAAAAAAAAAAAAAAAAAAAAAAAAAAAAAAAAAAAAAAAAAAA",
-        told: Told::Refused(3, 1, 2),
+        told: refused!(3, 1, 2),
     },
     Case {
         line: b"R,AAAAAAAAAAAAAAAAAAAAAAAAAAAAAAAAAAAAAAAAAAAAAAAAAAAAAAAAAAAAAAAAAAAAAAAAAAAAAAAAAAAAAAAAAAAAAAAAAAAA,GRS,0,1,0,0,0,0",
-        told: Told::Refused(1, 1, 0),
+        told: refused!(1, 1, 0),
     },
 ];
 
 #[test]
 fn lines_read_or_are_refused(rt: HostRuntime) {
-    for case in &CASES {
+    for case in CASES {
         assert_eq!(rt; read_and_written(case.line), case.told);
     }
 }
@@ -294,7 +299,7 @@ fn lines_have_120_bytes_at_most(rt: HostRuntime) {
     let longest =
         b"R,ABCDEFGHIJKL,TOU-P,9999999999999999,9999999999999999,9999999999999999,9999999999999999,9999999999999999,111111111111,7";
     assert_eq!(rt; longest.len(), 120);
-    assert_eq!(rt; read_and_written(longest), Told::Same);
+    assert_eq!(rt; read_and_written(longest), SAME);
     let too_long =
         b"R,ABCDEFGHIJKL,TOU-P,9999999999999999,9999999999999999,9999999999999999,9999999999999999,9999999999999999,111111111111,77";
     assert_eq!(rt; too_long.len(), 121);
@@ -341,16 +346,6 @@ fn other_calls_have_their_fields(rt: HostRuntime) -> Result<(), Fail> {
     assert!(rt; rider.code() == "SUBA-HH");
     assert_eq!(rt; amount.0, 56);
     Ok(())
-}
-
-// What writing a call into a buffer of so many places answers, and whether the buffer is then as it was.
-fn written(call: Call, places: usize) -> (Told, bool) {
-    let mut buffer = [b'.'; 200];
-    let Some(out) = buffer.get_mut(0..places) else {
-        return (Told::Another, false);
-    };
-    let told = bytes_or_refused(call.write(out));
-    (told, buffer == [b'.'; 200])
 }
 
 const MOST: u64 = 9_999_999_999_999_999;
@@ -411,10 +406,14 @@ fn only(field: Field, number: u64) -> Reading {
 #[test]
 fn numbers_of_17_digits_are_refused_at_their_place(rt: HostRuntime) {
     for field in &FIELDS {
-        let fits = written(rate(b"A1", only(*field, MOST)), 120);
-        assert_eq!(rt; fits, (Told::Bytes(37), false));
-        let beyond = written(rate(b"A1", only(*field, MOST + 1)), 120);
-        assert_eq!(rt; beyond, (Told::Refused(2, 1, field.number()), true));
+        let fits = written(&rt, 120, |out| rate(b"A1", only(*field, MOST)).write(out));
+        assert_eq!(rt; fits, Ok(37));
+        let beyond = written(
+            &rt,
+            120,
+            |out| rate(b"A1", only(*field, MOST + 1)).write(out),
+        );
+        assert_eq!(rt; beyond, refused!(2, 1, field.number()));
     }
 }
 
@@ -426,27 +425,30 @@ fn refused_calls_leave_the_buffer(rt: HostRuntime) {
         ..EMPTY
     };
     assert_eq!(rt;
-        written(rate(b"A1", wrong), 120),
-        (Told::Refused(2, 1, 8), true)
+        written(&rt, 120, |out| rate(b"A1", wrong).write(out)),
+        refused!(2, 1, 8)
     );
     assert_eq!(rt;
-        written(rate(b"a1", wrong), 0),
-        (Told::Refused(2, 1, 2), true)
+        written(&rt, 0, |out| rate(b"a1", wrong).write(out)),
+        refused!(2, 1, 2)
     );
     assert_eq!(rt;
-        written(filing(i64::MIN, 1), 120),
-        (Told::Refused(2, 1, 3), true)
+        written(&rt, 120, |out| filing(i64::MIN, 1).write(out)),
+        refused!(2, 1, 3)
     );
     assert_eq!(rt;
-        written(filing(-1, MOST + 1), 120),
-        (Told::Refused(2, 1, 4), true)
+        written(&rt, 120, |out| filing(-1, MOST + 1).write(out)),
+        refused!(2, 1, 4)
     );
     assert_eq!(rt;
-        written(entry(10_000_000_000_000_000), 120),
-        (Told::Refused(2, 1, 3), true)
+        written(&rt, 120, |out| entry(10_000_000_000_000_000).write(out)),
+        refused!(2, 1, 3)
     );
-    assert_eq!(rt; written(filing(-1, 1), 9), (Told::Refused(6, 3, 0), true));
-    assert_eq!(rt; written(filing(-1, 1), 10), (Told::Bytes(10), false));
+    assert_eq!(rt;
+        written(&rt, 9, |out| filing(-1, 1).write(out)),
+        refused!(6, 3, 0)
+    );
+    assert_eq!(rt; written(&rt, 10, |out| filing(-1, 1).write(out)), Ok(10));
 }
 
 // 120 bytes are written where there is room for them; 121 are not, though every field is spelt right.
@@ -468,24 +470,24 @@ fn written_lines_have_120_bytes_at_most(rt: HostRuntime) {
     };
     let account = b"ABCDEFGHIJKL";
     assert_eq!(rt;
-        written(rate(account, longest), 120),
-        (Told::Bytes(120), false)
+        written(&rt, 120, |out| rate(account, longest).write(out)),
+        Ok(120)
     );
     assert_eq!(rt;
-        written(rate(account, longest), 119),
-        (Told::Refused(6, 3, 0), true)
+        written(&rt, 119, |out| rate(account, longest).write(out)),
+        refused!(6, 3, 0)
     );
     assert_eq!(rt;
-        written(rate(account, too_long), 200),
-        (Told::Refused(1, 1, 0), true)
+        written(&rt, 200, |out| rate(account, too_long).write(out)),
+        refused!(1, 1, 0)
     );
     assert_eq!(rt;
-        written(rate(account, too_long), 0),
-        (Told::Refused(1, 1, 0), true)
+        written(&rt, 0, |out| rate(account, too_long).write(out)),
+        refused!(1, 1, 0)
     );
     assert_eq!(rt;
-        written(rate(&[b'a'; 120], EMPTY), 0),
-        (Told::Refused(1, 1, 0), true)
+        written(&rt, 0, |out| rate(&[b'a'; 120], EMPTY).write(out)),
+        refused!(1, 1, 0)
     );
 }
 

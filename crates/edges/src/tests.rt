@@ -7,6 +7,7 @@ use tariff::reading::Reading;
 use tariff::refusal::Refusal;
 use tariff::schedule::Schedule;
 
+// What the rows start from. It is no part of the library, as in `drill`: no schedule is the one that a reading has by default.
 pub(crate) const EMPTY: Reading = Reading {
     schedule: Schedule::Grs,
     rooms: 0,
@@ -36,7 +37,7 @@ struct Example {
     kwh: u32,
 }
 
-const EXAMPLES: [Example; 6] = [
+const EXAMPLES: &[Example] = &[
     Example {
         reading: Reading { kwh: 425, ..EMPTY },
         lines: [4_00, 21_01, 0, 0, 0],
@@ -94,7 +95,7 @@ const EXAMPLES: [Example; 6] = [
 
 #[test]
 fn examples_come_to_their_lines(rt: HostRuntime) -> Result<(), Fail> {
-    for example in &EXAMPLES {
+    for example in EXAMPLES {
         let Ok(rated) = example.reading.rate() else {
             return Err(Fail::new("a reading of the table is refused"));
         };
@@ -135,7 +136,7 @@ fn time_of_use_wants_a_load(rt: HostRuntime) -> Result<(), Fail> {
 }
 
 // A number, a divisor, and the rounded quotient.
-const QUOTIENTS: [(i64, u64, i64); 9] = [
+const QUOTIENTS: &[(i64, u64, i64)] = &[
     (5, 2, 3),
     (-5, 2, -3),
     (4_999, 10_000, 0),
@@ -149,7 +150,7 @@ const QUOTIENTS: [(i64, u64, i64); 9] = [
 
 #[test]
 fn halves_go_away_from_zero(rt: HostRuntime) -> Result<(), Fail> {
-    for (n, d, quotient) in &QUOTIENTS {
+    for (n, d, quotient) in QUOTIENTS {
         let Some(by) = Divisor::new(*d) else {
             return Err(Fail::new("a divisor of the table is refused"));
         };

@@ -1,26 +1,34 @@
-// What reading or writing a line answered, as tests compare it.
+// What writing a line answered, as tests compare it.
 use fields::fault::LineFault;
+use std::process::Abort;
+use tariff::refusal::Refusal;
 
-// A refusal's number, layer and field, or what came of the line.
-#[derive(Clone, Copy, PartialEq, Eq, Debug)]
-pub(crate) enum Told {
-    Refused(u8, u8, u8),
-    // written, so many bytes
-    Bytes(usize),
-    // read, and written again as it stood
-    Same,
-    // read, and written again as another line
-    Another,
+// A refusal by its number, layer and field.
+macro_rules! refused {
+    ($number:literal, $layer:literal, $field:expr) => {
+        Err(Refusal {
+            number: $number,
+            layer: $layer,
+            field: $field,
+        })
+    };
 }
 
-pub(crate) fn refused(fault: LineFault) -> Told {
-    let refusal = fault.refusal();
-    Told::Refused(refusal.number, refusal.layer, refusal.field)
-}
+pub(crate) use refused;
 
-pub(crate) fn bytes_or_refused(written: Result<usize, LineFault>) -> Told {
-    match written {
-        Ok(len) => Told::Bytes(len),
-        Err(fault) => refused(fault),
-    }
+// Writes into a buffer of so many places: a refusal leaves it as it was, a line does not.
+pub(crate) fn written<F: FnOnce(&mut [u8]) -> Result<usize, LineFault>>(
+    rt: &impl Abort,
+    places: usize,
+    write: F,
+) -> Result<usize, Refusal>
+    requires { F.IsAlwaysCallable write }
+{
+    let mut buffer = [b'.'; 300];
+    let answer = match buffer.get_mut(0..places) {
+        Some(out) => write(out),
+        None => Err(LineFault::BufferTooShort),
+    };
+    assert_eq!(rt; buffer == [b'.'; 300], answer.is_err());
+    answer.map_err(Refusal::from)
 }

@@ -1,5 +1,3 @@
-pub mod Codes
 pub mod Copies
 mod Numbers
-pub mod Spellings
 pub mod LineBuffers

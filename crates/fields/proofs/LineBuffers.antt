@@ -1,41 +1,24 @@
 -- What a line buffer holds as it grows.
-use Rattle.std.proofs.Common.{◌≡◌, ℕ, ◌+◌, ◌/◌, ◌%◌, ◌^◌, ◌<◌, ◌≤◌, Bool, true, false, cond, leb, List, [], ◌∷◌, ◌++◌, length, take, set, ℤ, pos, negsuc, nat_abs, Some, None, decimal, Option, sym, refl, ap, ◌∙◌, arith}
-use lib.Signed.{lt_z}
-use Rattle.std.specs.Fmt.{signed_decimal}
-use Rattle.std.proofs.lemmas.Bool.{ltb-true, le-leb, lt-leb, leb-true, leb-false}
+use Rattle.std.proofs.Common.{IsTrue, ◌≡◌, ℕ, ◌+◌, ◌*◌, ◌<◌, ◌≤◌, Bool, true, false, cond, leb, List, [], ◌∷◌, ◌++◌, length, Some, None, Option, sym, refl, ap, ◌∙◌, arith}
+use Rattle.std.proofs.Math.Nat.{mul-add}
+use Rattle.std.proofs.lemmas.Bool.{lt-leb, leb-true, leb-false}
 use Rattle.std.proofs.lemmas.Bool.Decides.{nat_tests}
-use Rattle.std.proofs.lemmas.List.{append_assoc, append-nil, length-append, length_push, length-take-le, take_more_set}
-use Rattle.std.proofs.lemmas.Fmt.{decimal_digit, decimal_step}
+use Rattle.std.proofs.lemmas.List.{append_assoc, append-nil, length-append}
+use Rattle.std.specs.Option.{option_map}
+use Rattle.arrayvec.specs.ArrayVec.{ArrayVec}
+use Rattle.fields.specs.Buffers.{fits}
 use Rattle.fields.specs.Lines.{with_commas}
 use Rattle.fields.specs.declared.line.LineBuffer.{LineBuffer}
 use Rattle.fields.specs.LineBuffers.{at_most, held, extended}
 
--- one more byte, where there is room for it or not
-pub held_byte : (n : ℕ) (o : Bool) (len b : ℕ) (bytes : List ℕ) → len < length bytes → len < n
-    → cond o None (Some (take (len + 1) (set bytes len b))) ≡ extended n (cond o None (Some (take len bytes))) (b ∷ [])
-unfolding extended
-held_byte n true len b bytes m l = refl
-held_byte n false len b bytes m l =
-    let s : length (take len bytes ++ b ∷ []) ≤ n = omega (arith, length_push (take len bytes) b, length-take-le len bytes (omega arith)) in
-    rw (le-leb (length (take len bytes ++ b ∷ [])) n s, take_more_set bytes len b m) refl
-
-pub held_past : (n : ℕ) (o : Bool) (len b : ℕ) (bytes : List ℕ) → len ≤ length bytes → n ≤ len → None ≡ extended n (cond o None (Some (take len bytes))) (b ∷ [])
-unfolding extended
-held_past n true len b bytes m l = refl
-held_past n false len b bytes m l =
-    let s : n < length (take len bytes ++ b ∷ []) = omega (arith, length_push (take len bytes) b, length-take-le len bytes m) in
-    rw (lt-leb (length (take len bytes ++ b ∷ [])) n s) refl
-
 -- adding nothing, and adding twice
 pub extended_none : (n : ℕ) (t : LineBuffer n) → held n t ≡ extended n (held n t) []
 unfolding extended
-extended_none n t = none_by t.over
+extended_none n t = none_by t.bytes t.within
   where
-    none_by : (o : Bool) → cond o None (Some (take t.len t.bytes)) ≡ extended n (cond o None (Some (take t.len t.bytes))) []
-    none_by true = refl
-    none_by false =
-        let s : length (take t.len t.bytes) ≤ n = omega (arith, t.within, length-take-le t.len t.bytes t.filled) in
-        rw (append-nil (take t.len t.bytes), le-leb (length (take t.len t.bytes)) n s) refl
+    none_by : (b : Option (ArrayVec ℕ)) → IsTrue (fits n b) → option_map (λ v. v.items) b ≡ extended n (option_map (λ v. v.items) b) []
+    none_by None w = refl
+    none_by (Some v) w = rw (append-nil v.items, w) refl
 
 twice_by : (n : ℕ) (xs ys zs : List ℕ) (b : Bool) → leb (length (xs ++ ys)) n ≡ b → extended n (cond b (Some (xs ++ ys)) None) zs ≡ at_most n (xs ++ (ys ++ zs))
 unfolding extended
@@ -80,22 +63,6 @@ at_most_some n xs ys e = some_by (leb (length ys) n) refl e
     some_by true t e = (cc, leb-true (length ys) n t)
     some_by false t e = absurd (grind arith)
 
--- the digits of a number, and its sign
-pub extended_digit : (n : ℕ) (o p : Option (List ℕ)) (k : ℕ) → k < 10 → p ≡ extended n o ((48 + k % 10) ∷ []) → p ≡ extended n o (decimal k)
-extended_digit n o p k l f = let e : k % 10 ≡ k = omega arith in rw (decimal_digit k l) (rw e at f)
-
-pub extended_digits : (n : ℕ) (o p q : Option (List ℕ)) (k : ℕ) → 10 ≤ k → k < 2 ^ 64 → p ≡ extended n o (decimal (k / 10)) → q ≡ extended n p ((48 + k % 10) ∷ [])
-    → q ≡ extended n o (decimal k)
-extended_digits n o p q k l s e f = rw (decimal_step k l s) (extended_both n o p q (decimal (k / 10)) ((48 + k % 10) ∷ []) e f)
-
-pub signed_below : (z : ℤ) → lt_z z (pos 0) ≡ true → signed_decimal z ≡ 45 ∷ decimal (nat_abs z)
-signed_below (pos n) h = absurd (omega (arith, ltb-true n 0 h))
-signed_below (negsuc n) h = refl
-
-pub signed_above : (z : ℤ) → lt_z z (pos 0) ≡ false → signed_decimal z ≡ decimal (nat_abs z)
-signed_above (pos n) h = refl
-signed_above (negsuc n) h = absurd (grind arith)
-
 -- one field more, and one list of fields after another
 pub commas_append : (fs gs : List (List ℕ)) → with_commas (fs ++ gs) ≡ with_commas fs ++ with_commas gs
 commas_append [] gs = refl
@@ -104,3 +71,7 @@ commas_append (f ∷ fs) gs =
 
 pub commas_push : (fs : List (List ℕ)) (f : List ℕ) → with_commas (fs ++ f ∷ []) ≡ with_commas fs ++ 44 ∷ f
 commas_push fs f = commas_append fs (f ∷ []) ∙ ap (λ (z : List ℕ). with_commas fs ++ 44 ∷ z) (append-nil f)
+
+-- one more field of at most m bytes, with its comma
+pub more_bytes : (m : ℕ) (xs ys : List ℕ) (i : ℕ) (c : ℕ) → length xs ≤ (m + 1) * i → length ys ≤ m → length (xs ++ c ∷ ys) ≤ (m + 1) * (i + 1)
+more_bytes m xs ys i c p q = omega (arith, length-append xs (c ∷ ys), mul-add (m + 1) i 1)

@@ -1,5 +1,6 @@
 -- How an account is spelt.
-use Rattle.std.specs.Prelude.{ℕ, Bool, true, ◌&&◌, ◌||◌, List, [], ◌∷◌, length, nat_le}
+use Rattle.std.specs.Prelude.{ℕ, Bool, ◌&&◌, ◌||◌, List, length, nat_le}
+use Rattle.std.specs.List.{list_all}
 use Rattle.std.specs.Char.{is_ascii_digit, is_ascii_uppercase}
 use Rattle.fields.specs.Limits.{max_account}
 
@@ -7,11 +8,6 @@ use Rattle.fields.specs.Limits.{max_account}
 abbrev pub account_byte : ℕ → Bool
 account_byte c = is_ascii_uppercase c || is_ascii_digit c
 
--- all are such bytes
-abbrev pub account_bytes : List ℕ → Bool
-account_bytes [] = true
-account_bytes (c ∷ cs) = account_byte c && account_bytes cs
-
 -- an account: 1 to 12 such bytes
 abbrev pub is_account : List ℕ → Bool
-is_account bs = nat_le 1 (length bs) && nat_le (length bs) max_account && account_bytes bs
+is_account bs = nat_le 1 (length bs) && nat_le (length bs) max_account && list_all account_byte bs

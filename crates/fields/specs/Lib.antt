@@ -7,3 +7,6 @@ pub mod Faults
 pub mod LineBuffers
 pub mod Lines
 pub mod Buffers
+pub mod SpellingLaws
+pub mod ValueLaws
+pub mod Texts

@@ -1,5 +1,6 @@
 -- What a line buffer holds.
-use Rattle.std.specs.Prelude.{◌≡◌, ℕ, cond, List, ◌++◌, length, take, Some, None, Option, nat_le}
+use Rattle.std.specs.Prelude.{◌≡◌, ℕ, cond, List, ◌++◌, length, Some, None, Option, nat_le}
+use Rattle.std.specs.Option.{option_map}
 use Rattle.fields.specs.declared.line.LineBuffer.{LineBuffer}
 
 -- bytes, if they are not too many
@@ -8,7 +9,7 @@ at_most n bs = cond (nat_le (length bs) n) (Some bs) None
 
 -- what a buffer of at most n bytes holds, which is nothing once that was passed
 abbrev pub held : (n : ℕ) → LineBuffer n → Option (List ℕ)
-held n t = cond t.over None (Some (take t.len t.bytes))
+held n t = option_map (λ v. v.items) t.bytes
 
 -- the same with more bytes after it
 unfoldable pub extended : ℕ → Option (List ℕ) → List ℕ → Option (List ℕ)

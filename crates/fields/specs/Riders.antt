@@ -1,5 +1,6 @@
 -- The riders of the house bank: their codes and their order.
-use Rattle.std.specs.Prelude.{ℕ, List, [], ◌∷◌, codes}
+use Rattle.std.specs.Prelude.{ℕ, List, [], ◌∷◌, codes, Option}
+use Rattle.fields.specs.Codes.{coded}
 use Rattle.fields.specs.declared.rider.HouseRider.{HouseRider}
 use Rattle.fields.specs.declared.rider.HouseRider.TheVariants.{Fca, Ppca, Fos, Cilta, SubaHh, SubaNhh, Imp}
 
@@ -16,3 +17,7 @@ rider_code Imp = codes "IMP"
 -- all of them, in the order of the bank
 abbrev pub house_riders : List HouseRider
 house_riders = Fca ∷ Ppca ∷ Fos ∷ Cilta ∷ SubaHh ∷ SubaNhh ∷ Imp ∷ []
+
+-- the rider that has this code
+unfoldable pub rider_of : List ℕ → Option HouseRider
+rider_of bs = coded rider_code house_riders bs

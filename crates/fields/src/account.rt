@@ -1,6 +1,7 @@
 // Accounts: whom a reading is billed to.
 ghost use Rattle.std.specs.Prelude.{◌≡◌};
-ghost use Rattle.fields.specs.Accounts.{account_byte, account_bytes, is_account};
+ghost use Rattle.std.specs.List.{list_all};
+ghost use Rattle.fields.specs.Accounts.{account_byte, is_account};
 
 // The most bytes of an account.
 const MAX_ACCOUNT: usize = 12;
@@ -12,14 +13,9 @@ fn is_account_byte(byte: u8) -> bool
 }
 
 fn are_account_bytes(bytes: &[u8]) -> bool
-    ensures { result ≡ account_bytes bytes.now }
+    ensures { result ≡ list_all account_byte bytes.now }
 {
-    for byte in bytes {
-        if !is_account_byte(*byte) {
-            return false;
-        }
-    }
-    true
+    bytes.iter().all(|&byte| is_account_byte(byte))
 }
 
 // 1 to 12 of A to Z and 0 to 9.

@@ -1,5 +1,5 @@
 // Codes: the names that a line has for things.
-ghost use Rattle.std.specs.Prelude.{◌≡◌, ℕ, List, bytes_eq};
+ghost use Rattle.std.specs.Prelude.{◌≡◌, ℕ, List};
 ghost use Rattle.fields.specs.Codes.{coded};
 ghost use Rattle.tariff.specs.Schedules.{code_of};
 
@@ -9,32 +9,29 @@ use tariff::schedule::Schedule;
 pub trait Coded: Copy {
     ghost spelling: { Self → List ℕ };
 
-    fn code_bytes(self) -> &'static [u8]
+    // The code, as lines spell it.
+    fn code(self) -> &'static str
         ensures { result.now ≡ spelling self };
+
+    // Its bytes.
+    final fn code_bytes(self) -> &'static [u8]
+        ensures { result.now ≡ spelling self }
+    {
+        self.code().as_bytes()
+    }
 }
 
 impl Coded for Schedule {
     ghost spelling = { code_of };
 
-    fn code_bytes(self) -> &'static [u8] {
-        self.code().as_bytes()
+    fn code(self) -> &'static str {
+        Schedule::code(self)
     }
-}
-
-fn same_bytes(a: &[u8], b: &[u8]) -> bool
-    ensures { result ≡ bytes_eq a.now b.now }
-{
-    a == b
 }
 
 // The first of a list that has this code.
 pub fn find<T: Coded>(all: &[T], code: &[u8]) -> Option<T>
     ensures { result ≡ coded T.spelling all.now code.now }
 {
-    for item in all {
-        if same_bytes(code, item.code_bytes()) {
-            return Some(*item);
-        }
-    }
-    None
+    all.iter().copied().find(|item| code == item.code_bytes())
 }

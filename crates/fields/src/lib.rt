@@ -9,4 +9,5 @@ pub mod fault;
 pub mod line;
 pub mod number;
 pub mod rider;
+pub mod value;
 mod writing;

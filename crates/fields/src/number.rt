@@ -13,8 +13,7 @@ const MAX_NUMBER: u64 = 9_999_999_999_999_999;
 fn digits(first: u64, rest: &[u8]) -> Option<u64>
     requires digit { first < 10 }
     requires short { length rest.now < max_digits }
-    ensures value { result ≡ read_on first rest.now }
-    ensures bound { IfSome result (λ n. n < 10 ^ max_digits) }
+    ensures { result ≡ read_on first rest.now }
 {
     let mut number = first;
     for byte in rest {
@@ -33,10 +32,10 @@ fn leads(first: u8, rest: &[u8]) -> bool
     first.is_ascii_digit() && (first != b'0' || rest.is_empty()) && rest.len() < MAX_DIGITS
 }
 
-// What `natural` answers, and that it is not too great to be given a sign.
-fn unsigned(bytes: &[u8]) -> Option<u64>
+// The number that 1 to 16 digits with no needless zero in front spell.
+pub fn natural(bytes: &[u8]) -> Option<u64>
     ensures value { result ≡ natural_of bytes.now }
-    ensures bound { IfSome result (λ n. n < 10 ^ max_digits) }
+    ensures law { SpellsNatural bytes.now result }
 {
     let [first, rest @ ..] = bytes else {
         return None;
@@ -55,29 +54,7 @@ fn negative(size: u64) -> Option<i64>
     if size == 0 {
         return None;
     }
-    Some(-(size as i64))
-}
-
-// What `integer` answers.
-fn signed(bytes: &[u8]) -> Option<i64>
-    ensures { result ≡ integer_of bytes.now }
-{
-    let [first, rest @ ..] = bytes else {
-        return None;
-    };
-    if *first == b'-' {
-        negative(unsigned(rest)?)
-    } else {
-        Some(unsigned(bytes)? as i64)
-    }
-}
-
-// The number that 1 to 16 digits with no needless zero in front spell.
-pub fn natural(bytes: &[u8]) -> Option<u64>
-    ensures value { result ≡ natural_of bytes.now }
-    ensures law { SpellsNatural bytes.now result }
-{
-    unsigned(bytes)
+    Some(-size.cast_signed())
 }
 
 // As `natural`, or a minus and then such a number other than 0.
@@ -85,7 +62,14 @@ pub fn integer(bytes: &[u8]) -> Option<i64>
     ensures value { result ≡ integer_of bytes.now }
     ensures law { SpellsInteger bytes.now result }
 {
-    signed(bytes)
+    let [first, rest @ ..] = bytes else {
+        return None;
+    };
+    if *first == b'-' {
+        negative(natural(rest)?)
+    } else {
+        Some(natural(bytes)?.cast_signed())
+    }
 }
 
 // A field can spell the number: it has at most 16 digits.

@@ -1,11 +1,12 @@
 // The riders of the house bank, which call lines and answers name. A rider is a charge besides the rate book's own that keeps a
 // balance of cost allowed against money billed; a bank is the list of riders that a book of bills stands over.
-ghost use Rattle.std.specs.Prelude.{◌≡◌};
+ghost use Rattle.std.specs.Prelude.{◌≡◌, Some};
 ghost use Rattle.fields.specs.Riders.{rider_code};
 
 use crate::code::Coded;
+use std::fmt;
 
-#[derive(Clone, Copy)]
+#[derive(Clone, Copy, PartialEq, Eq, Hash, Debug)]
 pub enum HouseRider {
     Fca,
     Ppca,
@@ -44,10 +45,18 @@ impl HouseRider {
     }
 }
 
+impl fmt::Display for HouseRider {
+    ghost output = { λ rider. Some (rider_code rider) };
+
+    fn fmt<W: fmt::Write>(&self, f: &mut fmt::Formatter<W>) -> fmt::Result {
+        f.write_str(self.code())
+    }
+}
+
 impl Coded for HouseRider {
     ghost spelling = { rider_code };
 
-    fn code_bytes(self) -> &'static [u8] {
-        self.code().as_bytes()
+    fn code(self) -> &'static str {
+        HouseRider::code(self)
     }
 }

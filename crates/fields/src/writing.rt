@@ -1,25 +1,19 @@
 // Writing a line field by field.
-ghost use Rattle.std.specs.Prelude.{◌≡◌, ◌+◌, ◌%◌, [], ◌∷◌, Some, decimal, nat_lt};
+ghost use Rattle.std.specs.Prelude.{◌≡◌, ◌+◌, ◌*◌, ◌≤◌, [], ◌∷◌, length, map, Some};
 ghost use Rattle.std.specs.Option.{option_map};
-ghost use Rattle.std.specs.Fmt.{signed_decimal};
 ghost use Rattle.fields.specs.LineBuffers.{held, Extends};
+ghost use Rattle.fields.specs.Lines.{with_commas};
 
 use crate::line::LineBuffer;
-
-fn last_digit(number: u64) -> u8
-    ensures { result ≡ 48 + number % 10 }
-{
-    b'0' + (number % 10) as u8
-}
+use arrayvec::ArrayVec;
+use itoa::{Buffer, Integer};
 
 impl<const N: usize> LineBuffer<N> {
     pub fn new() -> Self
         ensures { held N result ≡ Some [] }
     {
         LineBuffer {
-            bytes: [0; N],
-            len: 0,
-            over: false,
+            bytes: Some(ArrayVec::new()),
         }
     }
 
@@ -27,58 +21,25 @@ impl<const N: usize> LineBuffer<N> {
     pub fn line(&self) -> Option<&[u8]>
         ensures { option_map (λ x. x.now) result ≡ held N self.now }
     {
-        if self.over {
-            return None;
-        }
-        let bytes = &self.bytes[..];
-        Some(&bytes[0..self.len])
-    }
-
-    fn has_room(&self) -> bool
-        ensures { result ≡ nat_lt self.now.len N }
-    {
-        self.len < N
-    }
-
-    fn byte(&mut self, byte: u8)
-        ensures { Extends N self.old self.new (byte ∷ []) }
-    {
-        if self.has_room() {
-            self.bytes[self.len] = byte;
-            self.len += 1;
-        } else {
-            self.over = true;
-        }
+        Some(self.bytes.as_ref()?.as_slice())
     }
 
     // These bytes, as they are.
+    #[tactic(auto, unfolding(crate::specs::LineBuffers::extended))]
     pub fn append(&mut self, bytes: &[u8])
         ensures { Extends N self.old self.new bytes.now }
     {
-        for byte in bytes {
-            self.byte(*byte);
+        if let Some(line) = &mut self.bytes
+            && line.try_extend_from_slice(bytes).is_err()
+        {
+            self.bytes = None;
         }
     }
 
     fn comma(&mut self)
         ensures { Extends N self.old self.new (44 ∷ []) }
     {
-        self.byte(b',');
-    }
-
-    fn minus(&mut self)
-        ensures { Extends N self.old self.new (45 ∷ []) }
-    {
-        self.byte(b'-');
-    }
-
-    fn digits(&mut self, number: u64)
-        ensures { Extends N self.old self.new (decimal number) }
-    {
-        if number >= 10 {
-            self.digits(number / 10);
-        }
-        self.byte(last_digit(number));
+        self.append(b",");
     }
 
     // A comma, and then these bytes.
@@ -89,22 +50,21 @@ impl<const N: usize> LineBuffer<N> {
         self.append(bytes);
     }
 
-    // A comma, and then the number in digits.
-    pub fn natural(&mut self, number: u64)
-        ensures { Extends N self.old self.new (44 ∷ decimal number) }
+    // A comma, and then the number in digits, a minus before them where it is below 0.
+    pub fn number<I: Integer>(&mut self, number: I)
+        ensures value { Extends N self.old self.new (44 ∷ I.text number) }
+        ensures bound { length (I.text number) ≤ I.MAX_STR_LEN }
     {
-        self.comma();
-        self.digits(number);
+        self.field(Buffer::new().format(number).as_bytes());
     }
 
-    // A comma, and then the number in digits, a minus before them where it is below 0.
-    pub fn integer(&mut self, number: i64)
-        ensures { Extends N self.old self.new (44 ∷ signed_decimal number) }
+    // Each of the numbers so.
+    pub fn numbers<I: Integer>(&mut self, numbers: &[I])
+        ensures value { Extends N self.old self.new (with_commas (map I.text numbers.now)) }
+        ensures bound { length (with_commas (map I.text numbers.now)) ≤ (I.MAX_STR_LEN + 1) * length numbers.now }
     {
-        self.comma();
-        if number < 0 {
-            self.minus();
+        for number in numbers {
+            self.number(*number);
         }
-        self.digits(number.unsigned_abs());
     }
 }

@@ -21,7 +21,7 @@ pub(crate) fn show_noted(rt: &HostRuntime, noted: &Noted) -> anyhow::Result<()> 
             show_call(rt, call)?;
             show_again(rt, line.as_bytes(), call)?;
         }
-        Err(fault) => show_refusal(rt, fault.refusal(), line_reason(fault))?,
+        Err(fault) => show_refusal(rt, Refusal::from(fault), line_reason(fault))?,
     }
     println!(rt; "")?;
     Ok(())
@@ -91,7 +91,7 @@ fn show_again(rt: &HostRuntime, line: &[u8], call: Call) -> anyhow::Result<()> {
             };
             show_bytes(rt, same, again, "\n")
         }
-        Err(fault) => show_refusal(rt, fault.refusal(), line_reason(fault)),
+        Err(fault) => show_refusal(rt, Refusal::from(fault), line_reason(fault)),
     }
 }
 

@@ -1,8 +1,7 @@
 -- How an order of refusals decides.
-use Rattle.std.proofs.Common.{◌≡◌, ℕ, ◌+◌, ◌<◌, ◌≤◌, Bool, true, false, cond, List, [], ◌∷◌, ◌++◌, map, length, get_or, drop, Some, Ok, Err, Result, sym, refl, ◌∙◌}
+use Rattle.std.proofs.Common.{◌≡◌, Bool, true, false, cond, List, [], ◌∷◌, ◌++◌, map, Some, Ok, Err, Result, refl}
 use Rattle.std.specs.List.{find}
 use Rattle.std.specs.Result.{result_and}
-use Rattle.std.proofs.lemmas.List.{at_drop_more, at_drop_all}
 use Rattle.tariff.specs.Orders.{Order, first, decision}
 
 -- no condition of an order holds
@@ -49,14 +48,3 @@ found f (y ∷ ys) x e = by_head (f y).0 (found f ys x) e
     by_head : (t : Bool) → (find (λ z. (f z).0) ys ≡ Some x → decision (map f ys) ≡ Err (f x).1) → cond t (Some y) (find (λ z. (f z).0) ys) ≡ Some x → cond t (Err (f y).1) (decision (map f ys)) ≡ Err (f x).1
     by_head true k h = let q : y ≡ x = cc in rw q
     by_head false k h = k h
-
--- a loop over what the conditions are about: it comes to one that holds, goes on, or ends
-module _ {E X : Type 0} (f : X → Bool × E) (xs : List X) where
-  pub stops_here : (i : ℕ) (d : X) → i < length xs → decision (map f (drop i xs)) ≡ decision (map f xs) → (f (get_or xs i d)).0 ≡ true → Err (f (get_or xs i d)).1 ≡ decision (map f xs)
-  stops_here i d l inv t = sym (at_drop_more (λ (zs : List _). decision (map f zs)) xs i d l ∙ rw t refl) ∙ inv
-
-  pub goes_on : (i : ℕ) (d : X) → i < length xs → decision (map f (drop i xs)) ≡ decision (map f xs) → (f (get_or xs i d)).0 ≡ false → decision (map f (drop (i + 1) xs)) ≡ decision (map f xs)
-  goes_on i d l inv t = sym (at_drop_more (λ (zs : List _). decision (map f zs)) xs i d l ∙ rw t refl) ∙ inv
-
-  pub ends_clear : (i : ℕ) → length xs ≤ i → decision (map f (drop i xs)) ≡ decision (map f xs) → Ok tt ≡ decision (map f xs)
-  ends_clear i l inv = sym (at_drop_all (λ (zs : List _). decision (map f zs)) xs i l) ∙ inv

@@ -9,7 +9,7 @@ use Rattle.calls.proofs.call.Call.put_fields.Goals as goal
 pub returns-in-Rate : goal.returns-in-Rate
 unfolding field_bytes
 returns-in-Rate c =
-    let n = rw c.numbers.ensures at c.put_numbers.ensures in
+    let n = rw c.numbers.ensures at c.numbers-in-Rate.ensures.value in
     let p = extended_both _ _ _ _ _ _ c.field.ensures (extended_both _ _ _ _ _ _ c.field-in-Rate.ensures n) in
     rw (c.in-Rate.is, ← c.code_bytes.ensures) p
 
@@ -22,8 +22,8 @@ unfolding field_bytes
 returns-in-File c =
     let z : to_z w64 (of_z w64 c.in-File.cost.0) ≡ c.in-File.cost.0 = search (rules, to_z-of_z) in
     let p = extended_both _ _ _ _ _ _ c.field-in-File.ensures
-    (extended_both _ _ _ _ _ _ c.integer.ensures
-    (extended_last _ _ _ _ c.natural.ensures)) in
+    (extended_both _ _ _ _ _ _ c.number.ensures.value
+    (extended_last _ _ _ _ c.number-in-File.ensures.value)) in
     rw (c.in-File.is, ← c.code_bytes-in-File.ensures, ← z) p
 
 pub returns-in-Enter : goal.returns-in-Enter
@@ -31,7 +31,7 @@ unfolding field_bytes
 returns-in-Enter c =
     let z : to_z w64 (of_z w64 c.in-Enter.amount.0) ≡ c.in-Enter.amount.0 = search (rules, to_z-of_z) in
     let p = extended_both _ _ _ _ _ _ c.field-in-Enter.ensures
-    (extended_last _ _ _ _ c.integer-in-Enter.ensures) in
+    (extended_last _ _ _ _ c.number-in-Enter.ensures.value) in
     rw (c.in-Enter.is, ← c.code_bytes-in-Enter.ensures, ← z) p
 
 pub returns-in-Report : goal.returns-in-Report

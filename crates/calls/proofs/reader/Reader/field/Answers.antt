@@ -4,7 +4,8 @@ use Rattle.calls.proofs.reader.Reader.field.Goals as goal
 
 pub returns : goal.returns
 returns c =
-    record {
+    rw (← c.self.view_is)
+    (record {
       value = step_value _ _ _ c.if-from-line.false c.field_len-len.ensures.value;
       after = step_after _ _ _ c.if-from-line.false c.field_len-len.ensures.after;
-    }
+    })
