@@ -9,7 +9,7 @@ use crate::show::show_noted;
 use std::io;
 
 fn main(rt: HostRuntime) -> io::Result<()> {
-    for noted in &READINGS {
+    for noted in READINGS {
         show_noted(&rt, noted)?;
     }
     Ok(())

@@ -9,6 +9,7 @@ pub(crate) struct Noted {
     pub(crate) reading: Reading,
 }
 
+// What the rows start from. As in the tests; one for both would have to be public in `tariff`, where no schedule is the default.
 const EMPTY: Reading = Reading {
     schedule: Schedule::Grs,
     rooms: 0,
@@ -20,7 +21,7 @@ const EMPTY: Reading = Reading {
     contracted_load: 0,
 };
 
-pub(crate) const READINGS: [Noted; 52] = [
+pub(crate) const READINGS: &[Noted] = &[
     Noted {
         note: "no kWh: the customer charge is the floor",
         reading: Reading {

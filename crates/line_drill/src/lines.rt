@@ -8,7 +8,7 @@ pub(crate) struct Noted {
     pub(crate) line: &'static str,
 }
 
-pub(crate) const LINES: [Noted; 93] = [
+pub(crate) const LINES: &[Noted] = &[
     Noted {
         note: "no kWh: the customer charge is the floor",
         line: "R,A1,GRS,0,0,0,0,0,0,0",

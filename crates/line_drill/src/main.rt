@@ -3,14 +3,14 @@
 #![tactic(auto)]
 
 mod lines;
-mod rated;
 mod show;
+mod written;
 
 use crate::lines::LINES;
 use crate::show::show_noted;
 
 fn main(rt: HostRuntime) -> anyhow::Result<()> {
-    for noted in &LINES {
+    for noted in LINES {
         show_noted(&rt, noted)?;
     }
     Ok(())
