@@ -94,6 +94,7 @@ impl<'a> Answer<'a> {
                 buffer.numbers(&rider_lines(&riders));
                 buffer.number(total.0);
             }
+            // One arm for both is no plainer: its proof would have to cite names that the toolchain makes.
             Answer::Posted { number } => buffer.number(number),
             Answer::Voided { number } => buffer.number(number),
             Answer::Filed { rider, factor } => put_money(buffer, rider, factor),

@@ -4,6 +4,7 @@ use Rattle.std.proofs.lemmas.List.{take_at}
 use Rattle.std.proofs.lemmas.Bool.{not-false, not_from_true, le-leb, leb-true, eq-eqb, eqb-true}
 use Rattle.fields.specs.Buffers.{copied, at_front}
 use Rattle.fields.specs.Lines.{with_commas}
+use Rattle.fields.specs.ValueLaws.{coded_text}
 use Rattle.fields.specs.declared.fault.LineFault.{LineFault}
 use Rattle.fields.specs.declared.fault.LineFault.TheVariants.{Shape}
 use Rattle.fields.proofs.Copies.{copied_length}
@@ -11,10 +12,10 @@ use Rattle.tariff.proofs.Orders.{Clear}
 use Rattle.calls.specs.declared.call.Call.{Call}
 use Rattle.calls.specs.declared.letter.Letter.{Letter}
 use Rattle.calls.specs.declared.letter.Letter.TheVariants.{Rate, Post, Void, File, Enter, Report}
-use Rattle.calls.specs.LetterLaws.{letter_said, letter_again}
+use Rattle.calls.specs.LetterLaws.{letter_found}
 use Rattle.calls.specs.Limits.{max_line}
 use Rattle.calls.specs.Formats.{Format, Values, value_in, format, Placed, record_of}
-use Rattle.calls.specs.Letters.{letter_code, letter_of}
+use Rattle.calls.specs.Letters.{letter_code, letters, letter_of}
 use Rattle.calls.specs.Reads.{meant, taken, read_by, read_as, read_after, read_line}
 use Rattle.calls.specs.Records.{Record, meaning, rate, post, void, file, enter, report}
 use Rattle.calls.specs.Splits.{split, next, later}
@@ -105,7 +106,7 @@ unfolding line_of field_bytes
 reads_back r s k =
     let l = letter r in
     let vs = values_of r in
-    let b = letter_again l refl in
+    let b = letter_found l in
     let q : split (line_of r) ≡ letter_code l ∷ spellings (format l) vs = split_joined (letter_code l) (spellings (format l) vs) b.1 (plain_back (format l) vs k) in
     read_shaped (line_of r) l s (rw q b.0) (sym (eq-eqb _ _ (ap (λ (fs : List (List ℕ)). length (later fs)) q ∙ spelt_count (format l) vs)))
     ∙ (rw q (read_back (format l) vs (record_of l) k) ∙ ap (λ (x : Record). Ok x) (same_record r))
@@ -148,7 +149,7 @@ same_line line r a =
     let s = a.fields in
     let T : Record → Type 0 = λ x. Listed l s.values x in
     let m = subst T s.is (listed l s.values) in
-    (m.line ∙ (rw (s.fields, (letter_said _ l a.letter).0) (joined_split line)), m.clear s.clear)
+    (m.line ∙ (rw (s.fields, coded_text letter_code letters _ l a.letter) (joined_split line)), m.clear s.clear)
 
 rewrites : (line : List ℕ) (r : Record) → read_line line ≡ Ok r → Rewrites line r
 rewrites line r e =

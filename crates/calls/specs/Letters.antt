@@ -18,5 +18,5 @@ abbrev pub letters : List Letter
 letters = Rate ∷ Post ∷ Void ∷ File ∷ Enter ∷ Report ∷ []
 
 -- the letter that a field spells
-unfoldable pub letter_of : List ℕ → Option Letter
+abbrev pub letter_of : List ℕ → Option Letter
 letter_of bs = coded letter_code letters bs

@@ -1,11 +1,11 @@
 // The letter that a call line begins with.
-ghost use Rattle.std.specs.Prelude.{◌≡◌, true, length};
-ghost use Rattle.calls.specs.Letters.{letter_code, letter_of};
-ghost use Rattle.calls.specs.LetterLaws.{letter_said, letter_again};
+ghost use Rattle.std.specs.Prelude.{◌≡◌, length};
+ghost use Rattle.calls.specs.Letters.{letter_code, letters};
+ghost use Rattle.calls.specs.LetterLaws.{letter_found};
 ghost use Rattle.calls.specs.Formats.{format};
 
-use fields::code::{Coded, find};
-use fields::value::FieldValue;
+use fields::code::Coded;
+use fields::value::Listed;
 
 #[derive(Clone, Copy, PartialEq, Eq, Debug)]
 pub(crate) enum Letter {
@@ -17,7 +17,7 @@ pub(crate) enum Letter {
     Report,
 }
 
-const LETTERS: [Letter; 6] = [
+const LETTERS: &[Letter] = &[
     Letter::Rate,
     Letter::Post,
     Letter::Void,
@@ -57,19 +57,12 @@ impl Coded for Letter {
     }
 }
 
-impl FieldValue for Letter {
-    ghost value_of = { letter_of };
+impl Listed for Letter {
+    ghost all = { letters };
 
-    ghost spelling = { letter_code };
+    ghost found = { letter_found };
 
-    ghost spellable = { λ _. true };
-
-    ghost said = { letter_said };
-
-    ghost again = { letter_again };
-
-    #[tactic(auto, unfolding(crate::specs::Letters::letter_of))]
-    fn read(bytes: &[u8]) -> Option<Letter> {
-        find(&LETTERS, bytes)
+    fn all() -> &'static [Letter] {
+        LETTERS
     }
 }

@@ -8,8 +8,7 @@ use fields::account::is_account;
 use fields::value::FieldValue;
 use std::marker::Model;
 
-// The line, and the place that its reader has come to; a rule of the project, in place of a list of parts. Past the last field every
-// further one is empty.
+// The line, and the place that its reader has come to: a rule of the project. Past the last field every further one is empty.
 #[derive(Drop)]
 pub(crate) struct Reader<'a> {
     line: &'a [u8],
@@ -58,7 +57,8 @@ impl<'a> Reader<'a> {
         Reader { line, at: 0 }
     }
 
-    // The next field's bytes.
+    // The next field's bytes. That a reader goes one field on is what each method promises of its step, and no fact about a
+    // value.
     pub(crate) fn field(&mut self) -> &'a [u8]
         ensures value { result.now ≡ next self.old }
         ensures after { self.new ≡ later self.old }
@@ -73,6 +73,7 @@ impl<'a> Reader<'a> {
         &line[from..from + len]
     }
 
+    // The next field, where it is an account. Its value is a part of the line, and a `FieldValue` holds none.
     pub(crate) fn account(&mut self) -> Option<&'a [u8]>
         ensures value { option_map (λ x. x.now) result ≡ account_of (next self.old) }
         ensures after { self.new ≡ later self.old }

@@ -30,7 +30,7 @@ fn unspellable(reading: &Reading) -> Option<Field>
         .find(|field| !spells_natural(reading.number(*field)))
 }
 
-// It is refused.
+// The first number that no field can spell is refused.
 fn check_numbers(reading: &Reading) -> Result<(), LineFault>
     ensures { verdict result ≡ decision (map (misspelt_number reading.now) fields) }
 {

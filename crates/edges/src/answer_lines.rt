@@ -26,7 +26,6 @@ fn bill<'a>(
     total: i64,
 ) -> Answer<'a> {
     let [customer, energy, demand, excess, lift] = base;
-    let [fca, ppca, fos, cilta, suba_hh, suba_nhh, imp] = riders;
     Answer::Bill {
         number,
         account,
@@ -37,15 +36,7 @@ fn bill<'a>(
             excess: Cents(excess),
             lift: Cents(lift),
         },
-        riders: [
-            Cents(fca),
-            Cents(ppca),
-            Cents(fos),
-            Cents(cilta),
-            Cents(suba_hh),
-            Cents(suba_nhh),
-            Cents(imp),
-        ],
+        riders: riders.map(Cents),
         total: Cents(total),
     }
 }

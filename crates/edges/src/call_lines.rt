@@ -1,5 +1,5 @@
-// Call lines read and written: each refusal with its field, the edges of lengths and numbers, and bytes that are no text. Buffers here
-// and in the other tests are arrays with a length beside them, since the libraries write into the caller's, with no heap.
+// Call lines read and written: each refusal with its field, the edges of lengths and numbers, and bytes that are no text.
+// Buffers in the tests are arrays with a length beside them, since the libraries write into the caller's, with no heap.
 use crate::tests::EMPTY;
 use crate::told::{refused, written};
 use calls::call::{Call, MAX_LINE};

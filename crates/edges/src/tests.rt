@@ -7,7 +7,7 @@ use tariff::reading::Reading;
 use tariff::refusal::Refusal;
 use tariff::schedule::Schedule;
 
-// What the rows start from. It is no part of the library, as in `drill`: no schedule is the one that a reading has by default.
+// What the rows start from. As in `drill`; one for both would have to be public in `tariff`, where no schedule is the default.
 pub(crate) const EMPTY: Reading = Reading {
     schedule: Schedule::Grs,
     rooms: 0,

@@ -25,10 +25,8 @@ pub(crate) fn written<F: FnOnce(&mut [u8]) -> Result<usize, LineFault>>(
     requires { F.IsAlwaysCallable write }
 {
     let mut buffer = [b'.'; 300];
-    let answer = match buffer.get_mut(0..places) {
-        Some(out) => write(out),
-        None => Err(LineFault::BufferTooShort),
-    };
+    let out = buffer.get_mut(0..places).expect(rt, "at most 300 places");
+    let answer = write(out);
     assert_eq!(rt; buffer == [b'.'; 300], answer.is_err());
     answer.map_err(Refusal::from)
 }

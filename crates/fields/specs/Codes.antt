@@ -5,9 +5,9 @@ use Rattle.tariff.specs.Schedules.{code_of, schedules}
 use Rattle.tariff.specs.declared.schedule.Schedule.{Schedule}
 
 -- the first of a list that is spelt so
-abbrev pub coded : {X : Type 0} → (X → List ℕ) → List X → List ℕ → Option X
+unfoldable pub coded : {X : Type 0} → (X → List ℕ) → List X → List ℕ → Option X
 coded spelling xs bs = find (λ x. bytes_eq bs (spelling x)) xs
 
 -- the schedule that has this code
-unfoldable pub schedule_of : List ℕ → Option Schedule
+abbrev pub schedule_of : List ℕ → Option Schedule
 schedule_of bs = coded code_of schedules bs

@@ -19,5 +19,5 @@ abbrev pub house_riders : List HouseRider
 house_riders = Fca ∷ Ppca ∷ Fos ∷ Cilta ∷ SubaHh ∷ SubaNhh ∷ Imp ∷ []
 
 -- the rider that has this code
-unfoldable pub rider_of : List ℕ → Option HouseRider
+abbrev pub rider_of : List ℕ → Option HouseRider
 rider_of bs = coded rider_code house_riders bs

@@ -4,11 +4,11 @@ use Rattle.std.specs.Fmt.{signed_decimal}
 use Rattle.std.specs.Str.{bytes_eq}
 use Rattle.std.proofs.lemmas.Bool.{ltb-true, lt-ltb}
 use Rattle.std.proofs.lemmas.Slice.Eq.{bytes_eq-Decides}
-use Rattle.fields.specs.Codes.{coded, schedule_of}
+use Rattle.fields.specs.Codes.{coded}
 use Rattle.fields.specs.Limits.{max_digits}
 use Rattle.fields.specs.Lines.{plain}
 use Rattle.fields.specs.Numbers.{natural_of, integer_of, spells_natural, spells_integer}
-use Rattle.fields.specs.Riders.{rider_code, house_riders, rider_of}
+use Rattle.fields.specs.Riders.{rider_code, house_riders}
 use Rattle.fields.specs.declared.rider.HouseRider.{HouseRider}
 use Rattle.fields.specs.declared.rider.HouseRider.TheVariants.{Fca, Ppca, Fos, Cilta, SubaHh, SubaNhh, Imp}
 use Rattle.fields.specs.SpellingLaws.{natural_back, natural_text, integer_back, integer_text, plain_decimal, plain_signed}
@@ -35,37 +35,30 @@ coded_by spelling true x y o bs t go e = let q : x ≡ y = cc in ap spelling (sy
 coded_by spelling false x y o bs t go e = go e
 
 pub coded_text : {X : Type 0} (spelling : X → List ℕ) (xs : List X) (bs : List ℕ) (y : X) → coded spelling xs bs ≡ Some y → spelling y ≡ bs
+unfolding coded
 coded_text spelling [] bs y e = absurd (grind arith)
 coded_text spelling (x ∷ xs) bs y e = coded_by spelling (bytes_eq bs (spelling x)) x y (coded spelling xs bs) bs refl (coded_text spelling xs bs y) e
 
-pub schedule_said : (bs : List ℕ) (s : Schedule) → schedule_of bs ≡ Some s → (code_of s ≡ bs) × (true ≡ true)
-unfolding schedule_of
-schedule_said bs s e = (coded_text code_of schedules bs s e, refl)
+pub schedule_found : (s : Schedule) → (coded code_of schedules (code_of s) ≡ Some s) × (plain (code_of s) ≡ true)
+unfolding coded
+schedule_found Grs = (refl, refl)
+schedule_found Lrs = (refl, refl)
+schedule_found Rh3 = (refl, refl)
+schedule_found Rfr = (refl, refl)
+schedule_found Gss = (refl, refl)
+schedule_found Gsp = (refl, refl)
+schedule_found Gst = (refl, refl)
+schedule_found TouP = (refl, refl)
+schedule_found TouT = (refl, refl)
+schedule_found Gas = (refl, refl)
+schedule_found Lp13 = (refl, refl)
 
-pub schedule_again : (s : Schedule) → true ≡ true → (schedule_of (code_of s) ≡ Some s) × (plain (code_of s) ≡ true)
-unfolding schedule_of
-schedule_again Grs h = (refl, refl)
-schedule_again Lrs h = (refl, refl)
-schedule_again Rh3 h = (refl, refl)
-schedule_again Rfr h = (refl, refl)
-schedule_again Gss h = (refl, refl)
-schedule_again Gsp h = (refl, refl)
-schedule_again Gst h = (refl, refl)
-schedule_again TouP h = (refl, refl)
-schedule_again TouT h = (refl, refl)
-schedule_again Gas h = (refl, refl)
-schedule_again Lp13 h = (refl, refl)
-
-pub rider_said : (bs : List ℕ) (r : HouseRider) → rider_of bs ≡ Some r → (rider_code r ≡ bs) × (true ≡ true)
-unfolding rider_of
-rider_said bs r e = (coded_text rider_code house_riders bs r e, refl)
-
-pub rider_again : (r : HouseRider) → true ≡ true → (rider_of (rider_code r) ≡ Some r) × (plain (rider_code r) ≡ true)
-unfolding rider_of
-rider_again Fca h = (refl, refl)
-rider_again Ppca h = (refl, refl)
-rider_again Fos h = (refl, refl)
-rider_again Cilta h = (refl, refl)
-rider_again SubaHh h = (refl, refl)
-rider_again SubaNhh h = (refl, refl)
-rider_again Imp h = (refl, refl)
+pub rider_found : (r : HouseRider) → (coded rider_code house_riders (rider_code r) ≡ Some r) × (plain (rider_code r) ≡ true)
+unfolding coded
+rider_found Fca = (refl, refl)
+rider_found Ppca = (refl, refl)
+rider_found Fos = (refl, refl)
+rider_found Cilta = (refl, refl)
+rider_found SubaHh = (refl, refl)
+rider_found SubaNhh = (refl, refl)
+rider_found Imp = (refl, refl)

@@ -4,8 +4,8 @@ ghost use Rattle.fields.specs.Buffers.{copied, at_front};
 
 use crate::fault::LineFault;
 
-// Copies a line to the front of a buffer, and answers how many bytes that were. A buffer that is too short is left as it was. That the
-// buffer is the caller's, and its used part a number, is a rule of the project: no heap.
+// Copies a line to the front of a buffer, and answers how many bytes that were. A buffer that is too short is left as it was.
+// The buffer is the caller's by a rule of the project, as no library allocates; so its used part is a number.
 pub fn copy_line(line: &[u8], out: &mut [u8]) -> Result<usize, LineFault>
     ensures value { result ≡ copied (length line.now) (length out.old) }
     ensures after { out.new ≡ (if is_ok result then at_front line.now out.old else out.old) }

@@ -30,6 +30,7 @@ impl Coded for Schedule {
 }
 
 // The first of a list that has this code.
+#[tactic(auto, unfolding(crate::specs::Codes::coded))]
 pub fn find<T: Coded>(all: &[T], code: &[u8]) -> Option<T>
     ensures { result ≡ coded T.spelling all.now code.now }
 {

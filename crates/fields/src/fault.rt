@@ -90,6 +90,7 @@ impl From<LineFault> for Refusal {
             LineFault::BufferTooShort => (Rule::TooShort, Layer::Book, 0),
         };
         Refusal {
+            // `as` reads the numbers that the enums give
             number: rule as u8,
             layer: layer as u8,
             field,

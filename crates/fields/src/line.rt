@@ -4,8 +4,8 @@ ghost use Rattle.fields.specs.Buffers.{fits};
 
 use arrayvec::ArrayVec;
 
-// At most N bytes, or none at all once what was added did not fit. Its fact is no `impl Model`'s: to add nothing leaves a buffer as it
-// was only because it holds no more than N bytes, and a model would not tell that to those who add.
+// At most N bytes, or none at all once what was added did not fit. No plainer as an `impl Model`: callers would see the list
+// alone, and whatever adds no byte would have to promise that N is kept.
 #[derive(Drop)]
 pub struct LineBuffer<const N: usize> {
     pub(crate) bytes: Option<ArrayVec<u8, N>>,

@@ -17,7 +17,7 @@ pub enum HouseRider {
     Imp,
 }
 
-// All of them, in the order of the bank.
+// All of them, in the order of the bank: an array, since callers use its length.
 pub const HOUSE_RIDERS: [HouseRider; 7] = [
     HouseRider::Fca,
     HouseRider::Ppca,

@@ -1,25 +1,27 @@
 // What one field of a call line spells.
-ghost use Rattle.std.specs.Prelude.{◌≡◌, ℕ, Bool, true, List, Some, Option, decimal};
+ghost use Rattle.std.specs.Prelude.{◌≡◌, ℕ, Bool, true, List, Some, Option, decimal, refl};
 ghost use Rattle.std.specs.Fmt.{signed_decimal};
-ghost use Rattle.fields.specs.Codes.{schedule_of};
+ghost use Rattle.fields.specs.Codes.{coded};
 ghost use Rattle.fields.specs.Lines.{plain};
 ghost use Rattle.fields.specs.Numbers.{natural_of, integer_of, spells_natural, spells_integer};
-ghost use Rattle.fields.specs.Riders.{rider_code, rider_of};
-ghost use Rattle.fields.specs.ValueLaws.{natural_said, natural_again, integer_said, integer_again, schedule_said, schedule_again, rider_said, rider_again};
-ghost use Rattle.tariff.specs.Schedules.{code_of};
+ghost use Rattle.fields.specs.Riders.{house_riders};
+ghost use Rattle.fields.specs.ValueLaws.{natural_said, natural_again, integer_said, integer_again, coded_text, schedule_found, rider_found};
+ghost use Rattle.tariff.specs.Schedules.{schedules};
 
-use crate::code::find;
+use crate::code::{Coded, find};
 use crate::number::{integer, natural};
 use crate::rider::{HOUSE_RIDERS, HouseRider};
 use tariff::schedule::{SCHEDULES, Schedule};
 
 // A value that a field of its own spells, always by the same bytes.
 pub trait FieldValue: Copy {
-    // the value that bytes spell, and the bytes that spell a value, if a field can
+    // the value that bytes spell, if they spell one
     ghost value_of: { List ℕ → Option Self };
 
+    // the bytes that spell a value
     ghost spelling: { Self → List ℕ };
 
+    // a value that a field can spell
     ghost spellable: { Self → Bool };
 
     // What the field's bytes spell.
@@ -65,36 +67,49 @@ impl FieldValue for i64 {
     }
 }
 
-impl FieldValue for Schedule {
-    ghost value_of = { schedule_of };
+// Something of which there is a list. On it every code is found as what it stands for.
+pub trait Listed: Coded + 'static {
+    ghost all: { List Self };
 
-    ghost spelling = { code_of };
+    fn all() -> &'static [Self]
+        ensures { result.now ≡ all };
 
-    ghost spellable = { λ _. true };
+    // the first that has a thing's code is that thing, and the code has no comma
+    ghost found: { (x : Self) → (coded Self.spelling all (Self.spelling x) ≡ Some x) × (plain (Self.spelling x) ≡ true) };
+}
 
-    ghost said = { schedule_said };
+impl Listed for Schedule {
+    ghost all = { schedules };
 
-    ghost again = { schedule_again };
+    ghost found = { schedule_found };
 
-    #[tactic(auto, unfolding(crate::specs::Codes::schedule_of))]
-    fn read(bytes: &[u8]) -> Option<Schedule> {
-        find(&SCHEDULES, bytes)
+    fn all() -> &'static [Schedule] {
+        &SCHEDULES
     }
 }
 
-impl FieldValue for HouseRider {
-    ghost value_of = { rider_of };
+impl Listed for HouseRider {
+    ghost all = { house_riders };
 
-    ghost spelling = { rider_code };
+    ghost found = { rider_found };
+
+    fn all() -> &'static [HouseRider] {
+        &HOUSE_RIDERS
+    }
+}
+
+impl<T: Listed> FieldValue for T {
+    ghost value_of = { coded T.Coded.spelling T.all };
+
+    ghost spelling = { T.Coded.spelling };
 
     ghost spellable = { λ _. true };
 
-    ghost said = { rider_said };
+    ghost said = { λ bs x e. (coded_text T.Coded.spelling T.all bs x e, refl) };
 
-    ghost again = { rider_again };
+    ghost again = { λ x _. T.found x };
 
-    #[tactic(auto, unfolding(crate::specs::Riders::rider_of))]
-    fn read(bytes: &[u8]) -> Option<HouseRider> {
-        find(&HOUSE_RIDERS, bytes)
+    fn read(bytes: &[u8]) -> Option<T> {
+        find(T::all(), bytes)
     }
 }

@@ -19,7 +19,7 @@ const MAX_DEMAND: u64 = 99_999;
 const MIN_TIME_OF_USE_LOAD: u64 = 1_000;
 
 // The greatest number of each field, in the order of the call line. Rooms have theirs from the fixed rate.
-const LIMITS: [(Field, u64); 6] = [
+const LIMITS: &[(Field, u64)] = &[
     (Field::Kwh, MAX_KWH),
     (Field::OffPeakKwh, MAX_KWH),
     (Field::Kw, MAX_DEMAND),
@@ -154,7 +154,8 @@ impl Reading {
         Ok(self.narrowed(rate))
     }
 
-    // The numbers as an accepted reading has them, in fewer bits: `as` is proved to lose nothing, and `try_from` would refuse nothing.
+    // The numbers as an accepted reading has them, in fewer bits. `as` is proved to lose nothing, and `try_from` would refuse
+    // nothing.
     fn narrowed(&self, rate: Rate) -> Usage
         requires limits { Within self.now }
         requires rate { Some rate ≡ rate_of self.now.schedule self.now.rooms }

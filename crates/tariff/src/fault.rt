@@ -19,7 +19,7 @@ pub enum Field {
     ContractedLoad = 10,
 }
 
-// All of them, in the order of the call line.
+// All of them, in the order of the call line: an array, since callers use its length.
 pub const FIELDS: [Field; 7] = [
     Field::Rooms,
     Field::Kwh,
@@ -97,6 +97,7 @@ impl From<RatingFault> for Refusal {
             RatingFault::LoadTooSmall => (Rule::Contradiction, Field::ContractedLoad),
         };
         Refusal {
+            // `as` reads the numbers that the enums give
             number: rule as u8,
             layer: Layer::Rating as u8,
             field: field.number(),

@@ -28,7 +28,8 @@ pub enum Layer {
     Book = 3,
 }
 
-// Field 0 means no single field. The numbers stay plain: answer lines carry whatever a caller writes here.
+// Field 0 means no single field. Numbers, and not `Rule` and `Layer`: a caller may answer any three, and a narrower type would
+// forbid that.
 #[derive(Clone, Copy, PartialEq, Eq, Hash, Debug)]
 pub struct Refusal {
     pub number: u8,

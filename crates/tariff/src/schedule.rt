@@ -22,7 +22,7 @@ pub enum Schedule {
     Lp13,
 }
 
-// All of them, in the order of the rate book.
+// All of them, in the order of the rate book: an array, since callers use its length.
 pub const SCHEDULES: [Schedule; 11] = [
     Schedule::Grs,
     Schedule::Lrs,
@@ -87,7 +87,8 @@ impl Schedule {
         }
     }
 
-    // The rate of a reading with so many rooms, which only the fixed rate looks at; none where it has not 1 to 5.
+    // The rate of a reading with so many rooms, which only the fixed rate looks at; none where it has not 1 to 5. Handing the
+    // error on is no plainer: the reading's fault names the field, and not the rooms.
     pub(crate) fn rate(self, rooms: u64) -> Option<Rate>
         ensures { result ≡ rate_of self rooms }
     {

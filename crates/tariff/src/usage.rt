@@ -4,6 +4,8 @@ ghost use Rattle.tariff.specs.Limits.{max_kwh, max_demand};
 
 use crate::schedule::Rate;
 
+// A type of its own for the four numbers below the greatest demand would be no plainer: each is taken out again wherever it is
+// charged.
 #[derive(Clone, Copy)]
 pub(crate) struct Usage {
     pub(crate) rate: Rate,
