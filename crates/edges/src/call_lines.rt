@@ -371,36 +371,17 @@ fn entry<'a>(amount: i64) -> Call<'a> {
 
 // A reading of nothing but this number, in this field.
 fn only(field: Field, number: u64) -> Reading {
+    let mut reading = EMPTY;
     match field {
-        Field::Rooms => Reading {
-            rooms: number,
-            ..EMPTY
-        },
-        Field::Kwh => Reading {
-            kwh: number,
-            ..EMPTY
-        },
-        Field::OffPeakKwh => Reading {
-            off_peak_kwh: number,
-            ..EMPTY
-        },
-        Field::Kw => Reading {
-            kw: number,
-            ..EMPTY
-        },
-        Field::Kva => Reading {
-            kva: number,
-            ..EMPTY
-        },
-        Field::OffPeakKva => Reading {
-            off_peak_kva: number,
-            ..EMPTY
-        },
-        Field::ContractedLoad => Reading {
-            contracted_load: number,
-            ..EMPTY
-        },
+        Field::Rooms => reading.rooms = number,
+        Field::Kwh => reading.kwh = number,
+        Field::OffPeakKwh => reading.off_peak_kwh = number,
+        Field::Kw => reading.kw = number,
+        Field::Kva => reading.kva = number,
+        Field::OffPeakKva => reading.off_peak_kva = number,
+        Field::ContractedLoad => reading.contracted_load = number,
     }
+    reading
 }
 
 #[test]
