@@ -1,5 +1,5 @@
 -- How an order of refusals decides.
-use Rattle.std.proofs.Common.{◌≡◌, Bool, true, false, cond, List, [], ◌∷◌, ◌++◌, map, Some, Ok, Err, Result, refl}
+use Rattle.std.proofs.Common.{◌≡◌, Bool, true, false, cond, ◌⊎◌, List, [], ◌∷◌, ◌++◌, map, Some, Ok, Err, Result, refl, inl, inr}
 use Rattle.std.specs.List.{find}
 use Rattle.std.specs.Result.{result_and}
 use Rattle.tariff.specs.Orders.{Order, first, decision}
@@ -8,6 +8,20 @@ use Rattle.tariff.specs.Orders.{Order, first, decision}
 abbrev pub Clear : {E : Type 0} → Order E → Type 0
 Clear [] = Unit {0}
 Clear (r ∷ rs) = (r.0 ≡ false) × Clear rs
+
+pub clear_first : {E X : Type 0} (rs : Order E) (x : X) → Clear rs → first rs x ≡ Ok x
+clear_first [] x k = refl
+clear_first (r ∷ rs) x k = rw k.0 (clear_first rs x k.1)
+
+-- either none holds, or one refuses
+pub ways : {E X : Type 0} (rs : Order E) (x : X) → Clear rs ⊎ ((d : E) × (first rs x ≡ Err d))
+ways [] x = inl tt
+ways (r ∷ rs) x = by_test r.0 r.1 rs x (ways rs x)
+  where
+    by_test : {E X : Type 0} (t : Bool) (e : E) (rs : Order E) (x : X) → Clear rs ⊎ ((d : E) × (first rs x ≡ Err d)) → ((t ≡ false) × Clear rs) ⊎ ((d : E) × (cond t (Err e) (first rs x) ≡ Err d))
+    by_test true e rs x k = inr (e, refl)
+    by_test false e rs x (inl k) = inl (refl, k)
+    by_test false e rs x (inr k) = inr k
 
 -- what passes meets no condition
 pub passed : {E : Type 0} (rs : Order E) → Ok tt ≡ decision rs → Clear rs

@@ -7,16 +7,17 @@ use crate::refusal::{Layer, Refusal, Rule};
 use std::error::Error;
 use std::fmt;
 
-// A number of a reading, by its place on the call line, counted from 1.
+// A number of a reading, in the order of the call line. Its place on the line is no discriminant: cast, a field is its place on
+// the list of all, counted from 0.
 #[derive(Clone, Copy, PartialEq, Eq, Hash, Debug)]
 pub enum Field {
-    Rooms = 4,
-    Kwh = 5,
-    OffPeakKwh = 6,
-    Kw = 7,
-    Kva = 8,
-    OffPeakKva = 9,
-    ContractedLoad = 10,
+    Rooms,
+    Kwh,
+    OffPeakKwh,
+    Kw,
+    Kva,
+    OffPeakKva,
+    ContractedLoad,
 }
 
 // All of them, in the order of the call line: an array, since callers use its length.
@@ -49,7 +50,15 @@ impl Field {
     pub fn number(self) -> u8
         ensures { result ≡ field_number self }
     {
-        self as u8
+        match self {
+            Field::Rooms => 4,
+            Field::Kwh => 5,
+            Field::OffPeakKwh => 6,
+            Field::Kw => 7,
+            Field::Kva => 8,
+            Field::OffPeakKva => 9,
+            Field::ContractedLoad => 10,
+        }
     }
 }
 
