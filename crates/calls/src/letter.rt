@@ -4,7 +4,7 @@ ghost use Rattle.calls.specs.Letters.{letter_code, letters};
 ghost use Rattle.calls.specs.LetterLaws.{letter_found};
 ghost use Rattle.calls.specs.Formats.{format};
 
-use fields::code::Coded;
+use fields::code::TextCoded;
 use fields::value::Listed;
 
 #[derive(Clone, Copy, PartialEq, Eq, Debug)]
@@ -42,7 +42,7 @@ impl Letter {
     }
 }
 
-impl Coded for Letter {
+impl TextCoded for Letter {
     ghost spelling = { letter_code };
 
     fn code(self) -> &'static str {

@@ -1,3 +1,4 @@
+pub mod Codes
 pub mod Copies
 mod Numbers
 pub mod LineBuffers

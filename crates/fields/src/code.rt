@@ -5,23 +5,33 @@ ghost use Rattle.tariff.specs.Schedules.{code_of};
 
 use tariff::schedule::Schedule;
 
-// Has a code on a line.
+// Has a code on a line, which may be any bytes.
 pub trait Coded: Copy {
+    ghost spelling: { Self → List ℕ };
+
+    // The code's bytes.
+    fn code_bytes(self) -> &'static [u8]
+        ensures { result.now ≡ spelling self };
+}
+
+// Has a code that is text.
+pub trait TextCoded: Copy {
     ghost spelling: { Self → List ℕ };
 
     // The code, as lines spell it.
     fn code(self) -> &'static str
         ensures { result.now ≡ spelling self };
+}
 
-    // Its bytes.
-    final fn code_bytes(self) -> &'static [u8]
-        ensures { result.now ≡ spelling self }
-    {
+impl<T: TextCoded> Coded for T {
+    ghost spelling = { T.TextCoded.spelling };
+
+    fn code_bytes(self) -> &'static [u8] {
         self.code().as_bytes()
     }
 }
 
-impl Coded for Schedule {
+impl TextCoded for Schedule {
     ghost spelling = { code_of };
 
     fn code(self) -> &'static str {
@@ -29,10 +39,15 @@ impl Coded for Schedule {
     }
 }
 
-// The first of a list that has this code.
-#[tactic(auto, unfolding(crate::specs::Codes::coded))]
+// The first of a list that has this code. A loop, and no `find` of an iterator: the compiler unrolls it, and so knows every code of
+// a list that does not change.
 pub fn find<T: Coded>(all: &[T], code: &[u8]) -> Option<T>
     ensures { result ≡ coded T.spelling all.now code.now }
 {
-    all.iter().copied().find(|item| code == item.code_bytes())
+    for item in all {
+        if code == item.code_bytes() {
+            return Some(*item);
+        }
+    }
+    None
 }

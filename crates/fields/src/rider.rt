@@ -3,7 +3,7 @@
 ghost use Rattle.std.specs.Prelude.{◌≡◌, Some};
 ghost use Rattle.fields.specs.Riders.{rider_code};
 
-use crate::code::Coded;
+use crate::code::TextCoded;
 use std::fmt;
 
 #[derive(Clone, Copy, PartialEq, Eq, Hash, Debug)]
@@ -53,7 +53,7 @@ impl fmt::Display for HouseRider {
     }
 }
 
-impl Coded for HouseRider {
+impl TextCoded for HouseRider {
     ghost spelling = { rider_code };
 
     fn code(self) -> &'static str {
