@@ -6,6 +6,8 @@ mod answer_lines;
 #[cfg(test)]
 mod call_lines;
 #[cfg(test)]
+mod callers;
+#[cfg(test)]
 mod tests;
 #[cfg(test)]
 mod told;
