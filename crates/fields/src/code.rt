@@ -1,5 +1,5 @@
 // Codes: the names that a line has for things.
-ghost use Rattle.std.specs.Prelude.{◌≡◌, ℕ, List};
+ghost use Rattle.std.specs.Prelude.{◌≡◌, ℕ, List, bytes_eq};
 ghost use Rattle.fields.specs.Codes.{coded};
 ghost use Rattle.tariff.specs.Schedules.{code_of};
 
@@ -39,13 +39,20 @@ impl TextCoded for Schedule {
     }
 }
 
+// A rule of the project keeps the comparison a function, so that an edit of it is refused by its own fact.
+fn same_bytes(a: &[u8], b: &[u8]) -> bool
+    ensures { result ≡ bytes_eq a.now b.now }
+{
+    a == b
+}
+
 // The first of a list that has this code. A loop, and no `find` of an iterator: the compiler unrolls it, and so knows every code of
 // a list that does not change.
 pub fn find<T: Coded>(all: &[T], code: &[u8]) -> Option<T>
     ensures { result ≡ coded T.spelling all.now code.now }
 {
     for item in all {
-        if code == item.code_bytes() {
+        if same_bytes(code, item.code_bytes()) {
             return Some(*item);
         }
     }

@@ -6,11 +6,11 @@ use Rattle.fields.proofs.code.find.Goals as goal
 pub loop-item-init : goal.loop-item-init
 loop-item-init g c = refl
 
-pub returns-then-eq : goal.returns-then-eq
-returns-then-eq g c = sym (coded_step _ _ _ _ _ _ true c.loop-item-test.true c.item-item.is c.code_bytes.ensures (sym c.if-eq.true ∙ c.eq.ensures)) ∙ c.loop-item.invariant
+pub returns-then-same_bytes : goal.returns-then-same_bytes
+returns-then-same_bytes g c = sym (coded_step _ _ _ _ _ _ true c.loop-item-test.true c.item-item.is c.code_bytes.ensures c.if-same_bytes.ensures) ∙ c.loop-item.invariant
 
 pub loop-item-preserved : goal.loop-item-preserved
-loop-item-preserved g c = sym (coded_step _ _ _ _ _ _ false c.loop-item-test.true c.item-item.is c.code_bytes.ensures (sym c.if-eq.false ∙ c.eq.ensures)) ∙ c.loop-item.invariant
+loop-item-preserved g c = sym (coded_step _ _ _ _ _ _ false c.loop-item-test.true c.item-item.is c.code_bytes.ensures c.if-same_bytes.ensures) ∙ c.loop-item.invariant
 
 pub returns : goal.returns
 returns g c = sym (coded_end _ _ _ _ c.loop-item-test.false) ∙ c.loop-item.invariant
